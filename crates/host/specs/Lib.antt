@@ -1,0 +1,4 @@
+pub mod Outcome
+pub mod Slots
+pub mod Meaning
+pub mod Sound

@@ -1,0 +1,5 @@
+mod Values
+mod Steps
+mod Collect
+mod Taken
+mod Called

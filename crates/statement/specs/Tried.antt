@@ -1,0 +1,66 @@
+-- Binding value by value.
+use mathlib.Core.Bool.{Bool, true, false, cond}
+use mathlib.Core.List.{List, [], _∷_}
+use Prim.Native.Nat.{ℕ, _+_}
+use Rattle.std.specs.declared.option.Option.{Option}
+use Rattle.std.specs.declared.option.Option.the-variants.{Some, None}
+use Rattle.std.specs.declared.result.Result.{Result}
+use Rattle.std.specs.declared.result.Result.the-variants.{Ok, Err}
+use Rattle.host.specs.Meaning.{Meaning, bindFault, bindAfter}
+use Rattle.host.specs.declared.BindFault.{BindFault}
+use Rattle.statement.specs.Pairs.{Pair, pairsUp, slotFor, ownedSpan, spanLength}
+use Rattle.statement.specs.declared.stmt.Refusal.{Refusal}
+use Rattle.statement.specs.declared.stmt.Refusal.the-variants as refusal
+use Rattle.statement.specs.declared.stmt.taking.Unbindable.{Unbindable}
+use Rattle.statement.specs.declared.stmt.taking.Unbindable.the-variants.{Unpaired, Fault}
+
+-- How far binding came: the host then, how many values were bound, and why the next one was not.
+pub record Tried : Type 0 where
+  pub host : Meaning
+  pub bound : ℕ
+  pub why : Option Unbindable
+
+abbrev pub tried : Meaning → ℕ → Option Unbindable → Tried
+tried m n w = record { host = m; bound = n; why = w }
+
+-- One value: its type is tested first, then the host is asked.
+abbrev pub faultUnbindable : BindFault → Unbindable
+faultUnbindable f = Fault f
+
+abbrev pub faultWhy : Option BindFault → Option Unbindable
+faultWhy None = None
+faultWhy (Some f) = Some (faultUnbindable f)
+
+abbrev pub oneWhy : Meaning → ℕ → ℕ → Pair → Option Unbindable
+oneWhy m i at p = cond (pairsUp (p .0) (p .1)) (faultWhy (bindFault m i (slotFor at (p .1)))) (Some Unpaired)
+
+abbrev pub oneAfter : Meaning → ℕ → ℕ → Pair → Meaning
+oneAfter m i at p = cond (pairsUp (p .0) (p .1)) (bindAfter m i (slotFor at (p .1))) m
+
+abbrev pub whyAnswer : Option Unbindable → Result (Unit {0}) Unbindable
+whyAnswer None = Ok tt
+whyAnswer (Some w) = Err w
+
+-- The values in order, each at the slot of its number, until one is refused; the next owned one has its lease at a place of the room.
+abbrev pub goOn : Option Unbindable → Tried → Tried → Tried
+goOn None stop rest = rest
+goOn (Some w) stop rest = stop
+
+unfoldable pub bindFrom : Meaning → ℕ → ℕ → List Pair → Tried
+bindFrom m n at [] = tried m n None
+bindFrom m n at (p ∷ ps) =
+    goOn (oneWhy m (n + 1) at p)
+    (tried (oneAfter m (n + 1) at p) n (oneWhy m (n + 1) at p))
+    (bindFrom (oneAfter m (n + 1) at p) (n + 1) (at + spanLength (ownedSpan (p .1))) ps)
+
+-- The refusal of the value after so many.
+abbrev pub refusalAt : ℕ → Unbindable → Refusal
+refusalAt n Unpaired = refusal.Unpaired (n + 1)
+refusalAt n (Fault f) = refusal.NotBound (n + 1) f
+
+abbrev pub whyRefusal : ℕ → Option Unbindable → Result (Unit {0}) Refusal
+whyRefusal n None = Ok tt
+whyRefusal n (Some w) = Err (refusalAt n w)
+
+abbrev pub triedAnswer : Tried → Result (Unit {0}) Refusal
+triedAnswer t = whyRefusal (t .bound) (t .why)

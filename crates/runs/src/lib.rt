@@ -1,0 +1,3 @@
+// Calls and answers as data, and lists of them over any host.
+pub mod acts;
+pub mod turns;

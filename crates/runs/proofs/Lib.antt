@@ -1,1 +1,4 @@
 mod Turned
+mod Slots
+mod Kept
+mod Laws

@@ -3,7 +3,8 @@ ghost use mathlib.Core.List.{[]};
 ghost use Rattle.std.specs.Of.Vec.{vec-items};
 ghost use Rattle.std.specs.Vec.{made};
 ghost use Rattle.statement.specs.State.{stateOf};
-ghost use Rattle.runs.specs.Turns.{answerNumber, answerFigures, boundAnswer, executedAnswer, endedAnswer, asked, says, goes, leaves, deskOf, turnSays, turnGoes, Answers, lentBytes, keptText};
+ghost use Rattle.runs.specs.Turns.{answerNumber, answerFigures, boundAnswer, executedAnswer, endedAnswer, asked, says, goes, leaves, deskOf, turnSays, turnGoes, starting, Answers, lentBytes, keptText};
+ghost use Rattle.runs.specs.Past.{pastOf, Steps, BuffersKept, Copies};
 use crate::turns::Answer;
 use crate::turns::Buffers;
 use crate::turns::Call;
@@ -199,6 +200,9 @@ pub fn perform_all<X: Host + Drop>(
     turns: Vec<Turn>,
 ) -> Result<Performed<X>, AllocError>
     ensures answers { λ r. ⌜ made r (λ p. Answers (X·Host .meaning host) (vec-items turns) (vec-items (p .answers)) (stateOf (X·Host .meaning) (p .statement)) (deskOf (p .buffers))) ⌝ }
+    ensures steps { λ r. ⌜ made r (λ p. Steps (X·Host .meaning host) (pastOf (starting (X·Host .meaning host)) [] (vec-items turns) (vec-items (p .answers))) (stateOf (X·Host .meaning) (p .statement))) ⌝ }
+    ensures buffers { λ r. ⌜ made r (λ p. BuffersKept (pastOf (starting (X·Host .meaning host)) [] (vec-items turns) (vec-items (p .answers))) (stateOf (X·Host .meaning) (p .statement))) ⌝ }
+    ensures copies { λ r. ⌜ made r (λ p. Copies (X·Host .meaning host) (stateOf (X·Host .meaning) (p .statement))) ⌝ }
 {
     let mut answers = Vec::with_capacity(heap, turns.len())?;
     let mut statement = Statement::new(host);

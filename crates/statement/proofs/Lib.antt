@@ -1,5 +1,5 @@
 mod Values
 mod Steps
 mod Collect
-mod Taken
+pub mod Taken
 mod Called

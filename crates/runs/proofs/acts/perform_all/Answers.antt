@@ -7,8 +7,9 @@ use lib.ListN.{length}
 use Rattle.std.specs.Of.Vec.{vec-items, vec-len}
 use Rattle.std.specs.Of.IntoIter.{into-iter-items}
 use Rattle.statement.specs.State.{stateOf}
-use Rattle.runs.specs.Turns.{deskOf, starting, afterAll, answersTo}
+use Rattle.runs.specs.Turns.{deskOf, starting, afterAll, answersTo, Answers}
 use Rattle.runs.proofs.Turned.{answers-turn, after-turn, answers-done, after-done, starts, fewer}
+use Rattle.runs.proofs.Laws.{kept-run, steps-law, buffers-law, copies-law}
 use Rattle.runs.proofs.acts.perform_all.Needs as need
 
 pub loop-turn-again : need.loop-turn-again
@@ -43,9 +44,7 @@ returns g c =
     let none : length (into-iter-items (c .loop-turn .turn-iterator)) ≡ 0 = omega arith in
     let a = starts (m (c .args .host)) (stateOf m (c .new-statement .result)) (deskOf (c .new-buffers .result)) (c .new-statement .ensures) (c .new-buffers .ensures) in
     let b = c .into-iter-turn-iterator .ensures .becomes .0 in
-    record {
-      answers = record {
-        told = answers-done _ _ _ _ none (l .inv .0) ∙ ap₂ answersTo a b;
-        ends = after-done _ _ _ none (l .inv .1) ∙ ap₂ afterAll a b;
-      };
-    }
+    let x : Answers (m (c .args .host)) (vec-items (c .args .turns)) (vec-items (l .answers)) (stateOf m (l .statement)) (deskOf (l .buffers)) =
+    record { told = answers-done _ _ _ _ none (l .inv .0) ∙ ap₂ answersTo a b; ends = after-done _ _ _ none (l .inv .1) ∙ ap₂ afterAll a b } in
+    let k = kept-run (m (c .args .host)) (vec-items (c .args .turns)) (vec-items (l .answers)) (stateOf m (l .statement)) (deskOf (l .buffers)) (g .X·Host·met .sound (c .args .host)) x in
+    record { answers = x; steps = steps-law _ _ _ k; buffers = buffers-law _ _ _ k; copies = copies-law _ _ _ k }

@@ -1,0 +1,133 @@
+// The value lines of a bind call: a letter, the number of the declared type, and then what the letter asks for.
+ghost use Prim.Native.Nat.{ℕ, _+_, _^_, _≤_, _<_};
+ghost use lib.ListN.{length};
+ghost use Rattle.std.specs.Options.{Cases};
+ghost use Rattle.calls.specs.Items.{ContentWithin, movedBy};
+use figures::Part;
+use figures::Stop;
+use figures::figure;
+use figures::number;
+use figures::piece;
+use values::SqliteType;
+
+// The most bytes, borrowed or owned, of a call.
+pub const MOST_BYTES: usize = 65536;
+
+// Whether a text or bytes are borrowed from the text, or owned and copied into the room.
+#[derive(Clone, Copy)]
+pub enum Ownership {
+    Borrowed,
+    Owned,
+}
+
+// What a value line holds; the bytes of a text by where they stand in the line.
+#[derive(Clone, Copy)]
+pub enum Content {
+    Null,
+    I32(i32),
+    I64(i64),
+    F64(u64),
+    Text(Ownership, Part),
+    Bytes(Ownership, Part),
+}
+
+#[derive(Clone, Copy)]
+pub struct Item {
+    pub tpe: SqliteType,
+    pub content: Content,
+}
+
+// The pattern of infinity; above it, without the sign, only NaNs lie.
+const INFINITY: u64 = 0x7ff0_0000_0000_0000;
+
+const SIGN: u64 = 0x8000_0000_0000_0000;
+
+// The declared type in front, and how many bytes it takes with what ends it.
+fn declared(s: &[u8], stop: Stop) -> Option<(SqliteType, usize)>
+    ensures { λ r. ⌜ Cases r (Unit {0}) (λ p. p .1 ≤ length (now (s .entry))) ⌝ }
+{
+    let (n, k) = figure(s, stop, 7)?;
+    let tpe = SqliteType::from_number(n as u32)?;
+    Some((tpe, k))
+}
+
+// A signed 32-bit figure, and the end of the line.
+fn small(s: &[u8]) -> Option<(i32, usize)>
+    ensures { λ r. ⌜ Cases r (Unit {0}) (λ p. p .1 ≤ length (now (s .entry))) ⌝ }
+{
+    let (n, k) = number(s, Stop::Line)?;
+    if n < -2147483648 || n > 2147483647 {
+        return None;
+    }
+    Some((n as i32, k))
+}
+
+// The bit pattern of a Double that is a number, and the end of the line.
+fn double_bits(s: &[u8]) -> Option<(u64, usize)>
+    ensures { λ r. ⌜ Cases r (Unit {0}) (λ p. p .1 ≤ length (now (s .entry))) ⌝ }
+{
+    let (bits, k) = figure(s, Stop::Line, 18446744073709551615)?;
+    if bits % SIGN > INFINITY {
+        return None;
+    }
+    Some((bits, k))
+}
+
+// What the letter asks for, behind the declared type.
+fn behind_type(letter: u8, s: &[u8]) -> Option<(Content, usize)>
+    ensures { λ r. ⌜ Cases r (Unit {0}) (λ p. (p .1 ≤ length (now (s .entry))) × ContentWithin (length (now (s .entry))) (p .0)) ⌝ }
+{
+    if letter == b'I' {
+        let (n, k) = small(s)?;
+        return Some((Content::I32(n), k));
+    }
+    if letter == b'L' {
+        let (n, k) = number(s, Stop::Line)?;
+        return Some((Content::I64(n), k));
+    }
+    if letter == b'G' {
+        let (bits, k) = double_bits(s)?;
+        return Some((Content::F64(bits), k));
+    }
+    let part = piece(s, 0, MOST_BYTES as u64)?;
+    let k = part.from + part.len + 1;
+    match letter {
+        b'T' => Some((Content::Text(Ownership::Owned, part), k)),
+        b't' => Some((Content::Text(Ownership::Borrowed, part), k)),
+        b'B' => Some((Content::Bytes(Ownership::Owned, part), k)),
+        b'c' => Some((Content::Bytes(Ownership::Borrowed, part), k)),
+        _ => None,
+    }
+}
+
+// The value line in front: the item, its bytes placed in `s`, and how many bytes the line takes.
+pub fn item_line(s: &[u8]) -> Option<(Item, usize)>
+    ensures { λ r. ⌜ Cases r (Unit {0}) (λ p. (0 < p .1) × (p .1 ≤ length (now (s .entry))) × ContentWithin (length (now (s .entry))) (p .0 .content)) ⌝ }
+{
+    if s.len() < 2 || s[1] != b' ' {
+        return None;
+    }
+    let letter = s[0];
+    let rest = &s[2..];
+    if letter == b'N' {
+        let (tpe, k) = declared(rest, Stop::Line)?;
+        return Some((Item { tpe, content: Content::Null }, k + 2));
+    }
+    let (tpe, j) = declared(rest, Stop::Space)?;
+    let (content, k) = behind_type(letter, &rest[j..])?;
+    Some((Item { tpe, content: content.moved(j + 2) }, j + k + 2))
+}
+
+impl Content {
+    // The same, with bytes that stand further on.
+    fn moved(self, by: usize) -> Content
+        requires { ⌜ movedBy by self < 2 ^ 64 ⌝ }
+        ensures { λ r. ⌜ ((n m : ℕ) → ContentWithin n self → n + by ≤ m → ContentWithin m r) ⌝ }
+    {
+        match self {
+            Content::Text(ownership, part) => Content::Text(ownership, Part { from: part.from + by, len: part.len }),
+            Content::Bytes(ownership, part) => Content::Bytes(ownership, Part { from: part.from + by, len: part.len }),
+            _ => self,
+        }
+    }
+}

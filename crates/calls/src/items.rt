@@ -11,18 +11,18 @@ use figures::piece;
 use values::SqliteType;
 
 // The most bytes, borrowed or owned, of a call.
-pub const MOST_BYTES: usize = 65536;
+pub(crate) const MOST_BYTES: usize = 65536;
 
 // Whether a text or bytes are borrowed from the text, or owned and copied into the room.
 #[derive(Clone, Copy)]
-pub enum Ownership {
+pub(crate) enum Ownership {
     Borrowed,
     Owned,
 }
 
 // What a value line holds; the bytes of a text by where they stand in the line.
 #[derive(Clone, Copy)]
-pub enum Content {
+pub(crate) enum Content {
     Null,
     I32(i32),
     I64(i64),
@@ -32,7 +32,7 @@ pub enum Content {
 }
 
 #[derive(Clone, Copy)]
-pub struct Item {
+pub(crate) struct Item {
     pub tpe: SqliteType,
     pub content: Content,
 }
@@ -101,7 +101,7 @@ fn behind_type(letter: u8, s: &[u8]) -> Option<(Content, usize)>
 }
 
 // The value line in front: the item, its bytes placed in `s`, and how many bytes the line takes.
-pub fn item_line(s: &[u8]) -> Option<(Item, usize)>
+pub(crate) fn item_line(s: &[u8]) -> Option<(Item, usize)>
     ensures { λ r. ⌜ Cases r (Unit {0}) (λ p. (0 < p .1) × (p .1 ≤ length (now (s .entry))) × ContentWithin (length (now (s .entry))) (p .0 .content)) ⌝ }
 {
     if s.len() < 2 || s[1] != b' ' {
@@ -111,11 +111,23 @@ pub fn item_line(s: &[u8]) -> Option<(Item, usize)>
     let rest = &s[2..];
     if letter == b'N' {
         let (tpe, k) = declared(rest, Stop::Line)?;
-        return Some((Item { tpe, content: Content::Null }, k + 2));
+        return Some((
+            Item {
+                tpe,
+                content: Content::Null,
+            },
+            k + 2,
+        ));
     }
     let (tpe, j) = declared(rest, Stop::Space)?;
     let (content, k) = behind_type(letter, &rest[j..])?;
-    Some((Item { tpe, content: content.moved(j + 2) }, j + k + 2))
+    Some((
+        Item {
+            tpe,
+            content: content.moved(j + 2),
+        },
+        j + k + 2,
+    ))
 }
 
 impl Content {
@@ -125,8 +137,20 @@ impl Content {
         ensures { λ r. ⌜ ((n m : ℕ) → ContentWithin n self → n + by ≤ m → ContentWithin m r) ⌝ }
     {
         match self {
-            Content::Text(ownership, part) => Content::Text(ownership, Part { from: part.from + by, len: part.len }),
-            Content::Bytes(ownership, part) => Content::Bytes(ownership, Part { from: part.from + by, len: part.len }),
+            Content::Text(ownership, part) => Content::Text(
+                ownership,
+                Part {
+                    from: part.from + by,
+                    len: part.len,
+                },
+            ),
+            Content::Bytes(ownership, part) => Content::Bytes(
+                ownership,
+                Part {
+                    from: part.from + by,
+                    len: part.len,
+                },
+            ),
             _ => self,
         }
     }

@@ -1,3 +1,3 @@
 // The calls that a trial is given, read from lent bytes as turns.
-pub mod items;
+mod items;
 pub mod turns;

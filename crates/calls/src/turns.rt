@@ -4,7 +4,6 @@ ghost use mathlib.Core.Path.{_≡_};
 ghost use mathlib.Core.Bool.{true};
 ghost use mathlib.Core.List.{_∷_};
 ghost use Prim.Native.Nat.{_≤_, _<_};
-ghost use lib.Dec.{eqb};
 ghost use lib.ListN.{length, getD, drop};
 ghost use Rattle.std.specs.Of.Vec.{vec-len};
 ghost use Rattle.std.specs.Vec.{made};
@@ -29,19 +28,19 @@ use std::alloc::Refused;
 use values::SqliteType;
 
 // Why no turn could be read: the line is malformed, or there is no memory.
-#[derive(Clone, Copy, PartialEq, Eq, Debug)]
-pub enum CallFault {
+#[derive(Clone, Copy)]
+pub(crate) enum CallFault {
     Malformed,
     Memory,
 }
 
-pub impl From<AllocError> for CallFault as CallFaultFromAlloc {
+impl From<AllocError> for CallFault as CallFaultFromAlloc {
     fn from(_e: AllocError) -> CallFault {
         CallFault::Memory
     }
 }
 
-pub impl<T: Drop> From<Refused<T>> for CallFault as CallFaultFromRefused {
+impl<T: Drop> From<Refused<T>> for CallFault as CallFaultFromRefused {
     fn from(_e: Refused<T>) -> CallFault {
         CallFault::Memory
     }
@@ -62,7 +61,10 @@ fn keep(buffer: &mut Vec<u8>, bytes: &[u8]) -> Result<Span, CallFault> {
         return Err(CallFault::Malformed);
     }
     buffer.extend_from_slice(bytes)?;
-    Ok(Span { start, len: bytes.len() })
+    Ok(Span {
+        start,
+        len: bytes.len(),
+    })
 }
 
 // The bytes of a part, if it lies inside.
@@ -77,7 +79,11 @@ fn part_bytes(s: &[u8], part: Part) -> Option<&[u8]> {
 
 impl Values {
     fn new(heap: Global) -> Values {
-        Values { pairs: Vec::new(heap), text: Vec::new(heap), given: Vec::new(heap) }
+        Values {
+            pairs: Vec::new(heap),
+            text: Vec::new(heap),
+            given: Vec::new(heap),
+        }
     }
 
     fn kept(&mut self, ownership: Ownership, s: &[u8], part: Part) -> Result<Span, CallFault> {
@@ -99,17 +105,21 @@ impl Values {
             Content::F64(bits) => Ok(SqliteBindValue::F64(std::num::f64_from_bits_with_nan(bits))),
             Content::Text(ownership, part) => {
                 let span = self.kept(ownership, s, part)?;
-                Ok(match ownership {
-                    Ownership::Borrowed => SqliteBindValue::BorrowedString(span),
-                    Ownership::Owned => SqliteBindValue::String(span),
-                })
+                Ok(
+                    match ownership {
+                        Ownership::Borrowed => SqliteBindValue::BorrowedString(span),
+                        Ownership::Owned => SqliteBindValue::String(span),
+                    },
+                )
             }
             Content::Bytes(ownership, part) => {
                 let span = self.kept(ownership, s, part)?;
-                Ok(match ownership {
-                    Ownership::Borrowed => SqliteBindValue::BorrowedBinary(span),
-                    Ownership::Owned => SqliteBindValue::Binary(span),
-                })
+                Ok(
+                    match ownership {
+                        Ownership::Borrowed => SqliteBindValue::BorrowedBinary(span),
+                        Ownership::Owned => SqliteBindValue::Binary(span),
+                    },
+                )
             }
         }
     }
@@ -129,7 +139,7 @@ impl Values {
 
 // A reader that moves over the lent call lines, one call at a time.
 #[derive(Clone, Copy)]
-pub struct CallReader<'a> {
+pub(crate) struct CallReader<'a> {
     bytes: &'a [u8],
     place: usize,
     ghost within: { place ≤ length (now bytes) },
@@ -158,22 +168,15 @@ fn bind_line(s: &[u8]) -> Option<(u32, u64, usize)>
 }
 
 impl<'a> CallReader<'a> {
-    pub fn new(bytes: &'a [u8]) -> CallReader<'a>
+    pub(crate) fn new(bytes: &'a [u8]) -> CallReader<'a>
         ensures bytes { λ r. ⌜ now (r .bytes) ≡ now (bytes .entry) ⌝ }
         ensures place { λ r. ⌜ r .place ≡ 0 ⌝ }
     {
         CallReader { bytes, place: 0 }
     }
 
-    // Whether no byte is left.
-    pub fn is_done(&self) -> bool
-        ensures { λ r. ⌜ r ≡ eqb (now (self .entry) .place) (length (now (now (self .entry) .bytes))) ⌝ }
-    {
-        self.place == self.bytes.len()
-    }
-
     // The letter in front, if any.
-    pub fn letter(&self) -> Option<u8>
+    pub(crate) fn letter(&self) -> Option<u8>
         ensures { λ r. ⌜ Cases r (now (self .entry) .place ≡ length (now (now (self .entry) .bytes))) (λ b. b ≡ getD (now (now (self .entry) .bytes)) (now (self .entry) .place) 0) ⌝ }
     {
         if self.place == self.bytes.len() {
@@ -183,18 +186,28 @@ impl<'a> CallReader<'a> {
     }
 
     // The next call with its value lines, as a turn that lends its own text and given bytes and keeps the room.
-    pub fn next_turn(&mut self, heap: Global) -> Result<Turn, CallFault>
+    pub(crate) fn next_turn(&mut self, heap: Global) -> Result<Turn, CallFault>
         ensures same { λ _. ⌜ now (now (self .exit) .bytes) ≡ now (now (self .entry) .bytes) ⌝ }
         ensures moved { λ r. ⌜ (isOk r ≡ true → now (self .entry) .place < now (self .exit) .place) ⌝ }
     {
         let rest = &self.bytes[self.place..];
         if is_letter(rest, b'x') {
             self.place += 2;
-            return Ok(Turn { call: Call::Execute, text: Lent::Kept, given: Lent::Kept, room: Lent::Kept });
+            return Ok(Turn {
+                call: Call::Execute,
+                text: Lent::Kept,
+                given: Lent::Kept,
+                room: Lent::Kept,
+            });
         }
         if is_letter(rest, b'e') {
             self.place += 2;
-            return Ok(Turn { call: Call::End, text: Lent::Kept, given: Lent::Kept, room: Lent::Kept });
+            return Ok(Turn {
+                call: Call::End,
+                text: Lent::Kept,
+                given: Lent::Kept,
+                room: Lent::Kept,
+            });
         }
         let Some((query, count, n)) = bind_line(rest) else {
             return Err(CallFault::Malformed);
@@ -202,7 +215,12 @@ impl<'a> CallReader<'a> {
         self.place += n;
         let values = self.values(heap, count)?;
         let Values { pairs, text, given } = values;
-        Ok(Turn { call: Call::Bind { query, pairs }, text: Lent::Fresh(text), given: Lent::Fresh(given), room: Lent::Kept })
+        Ok(Turn {
+            call: Call::Bind { query, pairs },
+            text: Lent::Fresh(text),
+            given: Lent::Fresh(given),
+            room: Lent::Kept,
+        })
     }
 
     // So many value lines.
@@ -238,15 +256,33 @@ pub fn read_calls(heap: Global, bytes: &[u8], room: Vec<u8>) -> Result<Calls, Al
     while let Some(letter) = reader.letter() {
         match reader.next_turn(heap) {
             Ok(read) => {
-                let Turn { call, text, given, room: _ } = read;
+                let Turn {
+                    call,
+                    text,
+                    given,
+                    room: _,
+                } = read;
                 let room = lent;
                 lent = Lent::Kept;
                 letters.push(letter)?;
-                turns.push(Turn { call, text, given, room })?;
+                turns.push(Turn {
+                    call,
+                    text,
+                    given,
+                    room,
+                })?;
             }
-            Err(CallFault::Malformed) => return Ok(Calls { letters, turns, malformed: true }),
+            Err(CallFault::Malformed) => return Ok(Calls {
+                letters,
+                turns,
+                malformed: true,
+            }),
             Err(CallFault::Memory) => return Err(AllocError),
         }
     }
-    Ok(Calls { letters, turns, malformed: false })
+    Ok(Calls {
+        letters,
+        turns,
+        malformed: false,
+    })
 }

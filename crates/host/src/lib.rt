@@ -9,14 +9,14 @@ ghost use Rattle.host.specs.Meaning.{Meaning, bindAnswer, bindAfter, resetAfte
 ghost use Rattle.host.specs.Sound.{Sound};
 
 // The buffer that a part lies in: the text or the room (the caller's buffer that owned values are copied into).
-#[derive(Clone, Copy, PartialEq, Eq)]
+#[derive(Clone, Copy)]
 pub enum Source {
     Text,
     Room,
 }
 
 // A stretch of one of the two buffers.
-#[derive(Clone, Copy, PartialEq, Eq)]
+#[derive(Clone, Copy)]
 pub struct Part {
     pub source: Source,
     pub start: usize,
@@ -24,7 +24,7 @@ pub struct Part {
 }
 
 // What a parameter is bound to. A Double is held by its bit pattern.
-#[derive(Clone, Copy, PartialEq, Eq)]
+#[derive(Clone, Copy)]
 pub enum Slot {
     Null,
     Long(i64),
@@ -52,7 +52,7 @@ pub enum HostValue<'a> {
 }
 
 // Why a bind is refused.
-#[derive(Clone, Copy, PartialEq, Eq, Debug)]
+#[derive(Clone, Copy)]
 pub enum BindFault {
     Misuse,
     Range,
@@ -73,14 +73,14 @@ impl BindFault {
 }
 
 // A step that gave no failure.
-#[derive(Clone, Copy, PartialEq, Eq, Debug)]
+#[derive(Clone, Copy)]
 pub enum Stepped {
     Row,
     Done,
 }
 
 // A step's failure, with the host's code.
-#[derive(Clone, Copy, PartialEq, Eq, Debug)]
+#[derive(Clone, Copy)]
 pub struct StepFault {
     pub code: u32,
 }
@@ -125,7 +125,7 @@ impl<'a> HostValue<'a> {
     pub fn null() -> HostValue<'a>
         ensures { λ r. ⌜ slotOf r ≡ Slot.Null ⌝ }
     {
-        HostValue::Null
+        Self::Null
     }
 
     // The slot that the value stands for; a Double that is not a number is null.

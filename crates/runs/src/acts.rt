@@ -72,7 +72,7 @@ fn ended(r: Result<usize, Refusal>) -> Answer
 }
 
 // Makes one call on the buffers that are lent to it.
-pub fn make_call<X: Host>(
+fn make_call<X: Host>(
     statement: &mut Statement<X>,
     call: &Call,
     text: &[u8],
@@ -97,7 +97,7 @@ pub fn make_call<X: Host>(
 }
 
 impl Buffers {
-    pub fn new(heap: Global) -> Buffers
+    fn new(heap: Global) -> Buffers
         ensures { λ r. ⌜ deskOf r ≡ record { text = []; given = []; room = [] } ⌝ }
     {
         Buffers {

@@ -1,11 +1,7 @@
 // A call with what is lent at it, and what it is answered.
-use host::BindFaultPartialEq as _;
-use host::SteppedPartialEq as _;
 use statement::collector::SqliteBindValue;
 use statement::stmt::Executed;
-use statement::stmt::ExecutedPartialEq as _;
 use statement::stmt::Refusal;
-use statement::stmt::RefusalPartialEq as _;
 use statement::stmt::Statement;
 use values::SqliteType;
 
@@ -35,7 +31,7 @@ pub struct Turn {
     pub room: Lent,
 }
 
-#[derive(Clone, Copy, PartialEq, Eq)]
+#[derive(Clone, Copy)]
 pub enum Answer {
     Bound(usize),
     Executed(Executed),

@@ -4,7 +4,7 @@ ghost use Rattle.statement.specs.Pairs.{pairsUp, ownedSpan, takesBytes, spanIn
 use values::SqliteType;
 
 // A stretch of bytes: of the text for a borrowed value, of the given bytes for an owned one, of the room for a lease.
-#[derive(Clone, Copy, PartialEq, Eq)]
+#[derive(Clone, Copy)]
 pub struct Span {
     pub start: usize,
     pub len: usize,
@@ -12,7 +12,7 @@ pub struct Span {
 
 impl Span {
     // Whether the stretch lies inside so many bytes; an empty one may stand at their end.
-    pub fn is_inside(&self, size: usize) -> bool
+    pub(crate) fn is_inside(&self, size: usize) -> bool
         ensures { λ r. ⌜ r ≡ spanInside size (now (self .entry)) ⌝ }
     {
         self.start <= size && self.len <= size - self.start
@@ -35,7 +35,7 @@ pub enum SqliteBindValue {
 
 impl SqliteBindValue {
     // Where an owned value stands in the given bytes.
-    pub fn owned(&self) -> Option<Span>
+    pub(crate) fn owned(&self) -> Option<Span>
         ensures { λ r. ⌜ r ≡ ownedSpan (now (self .entry)) ⌝ }
     {
         match *self {
@@ -46,7 +46,7 @@ impl SqliteBindValue {
     }
 
     // Whether the value is text or bytes, borrowed or owned.
-    pub fn takes_bytes(&self) -> bool
+    pub(crate) fn takes_bytes(&self) -> bool
         ensures { λ r. ⌜ r ≡ takesBytes (now (self .entry)) ⌝ }
     {
         match *self {
@@ -59,7 +59,7 @@ impl SqliteBindValue {
     }
 
     // Whether the value lies inside the text, if borrowed, or the given bytes, if owned.
-    pub fn is_inside(&self, text: usize, given: usize) -> bool
+    pub(crate) fn is_inside(&self, text: usize, given: usize) -> bool
         ensures { λ r. ⌜ r ≡ valueInside text given (now (self .entry)) ⌝ }
     {
         match *self {
@@ -73,7 +73,7 @@ impl SqliteBindValue {
 }
 
 // Whether a value may be bound under a declared type.
-pub fn pairs_up(tpe: SqliteType, value: &SqliteBindValue) -> bool
+pub(crate) fn pairs_up(tpe: SqliteType, value: &SqliteBindValue) -> bool
     ensures { λ r. ⌜ r ≡ pairsUp tpe (now (value .entry)) ⌝ }
 {
     match (tpe, value) {
@@ -92,7 +92,7 @@ pub fn pairs_up(tpe: SqliteType, value: &SqliteBindValue) -> bool
 }
 
 // Whether each value lies inside its buffer.
-pub fn all_inside(pairs: &[(SqliteType, SqliteBindValue)], text: usize, given: usize) -> bool
+pub(crate) fn all_inside(pairs: &[(SqliteType, SqliteBindValue)], text: usize, given: usize) -> bool
     ensures { λ r. ⌜ r ≡ allInside text given (now (pairs .entry)) ⌝ }
 {
     for (_, value) in pairs {

@@ -3,12 +3,8 @@ ghost use mathlib.Core.Path.{_≡_};
 ghost use Prim.Native.Nat.{_≤_};
 ghost use lib.ListN.{length};
 use crate::collector::Span;
-use crate::collector::SpanPartialEq as _;
 
 pub mod collecting;
-
-// The most values that a bind takes, and so the most leases.
-pub const MOST: usize = 32;
 
 // The leases, in the order of their values, and how many bytes they take.
 #[derive(Clone, Copy)]

@@ -2,18 +2,14 @@
 use crate::ledger::ByteSlots;
 use crate::ledger::Ledger;
 use host::BindFault;
-use host::BindFaultDebug as _;
-use host::BindFaultPartialEq as _;
 use host::Stepped;
-use host::SteppedDebug as _;
-use host::SteppedPartialEq as _;
 
 pub mod calls;
 pub mod returning;
 pub mod taking;
 
 // What a call is refused for.
-#[derive(Clone, Copy, PartialEq, Eq, Debug)]
+#[derive(Clone, Copy)]
 pub enum Refusal {
     // a binding is current where none may be, or the other way round
     WrongState,
@@ -30,34 +26,34 @@ pub enum Refusal {
 }
 
 // Whether a binding is current.
-#[derive(Clone, Copy, PartialEq, Eq, Debug)]
+#[derive(Clone, Copy)]
 pub enum Binding {
     AtRest,
     Unstepped,
 }
 
 // The lengths of the text and the room at the bind, which every later call keeps to.
-#[derive(Clone, Copy, PartialEq, Eq, Debug)]
+#[derive(Clone, Copy)]
 pub struct Lengths {
     pub text: usize,
     pub room: usize,
 }
 
 // The rows that were delivered and not yet released.
-#[derive(Clone, Copy, PartialEq, Eq, Debug)]
+#[derive(Clone, Copy)]
 pub struct HeldRows {
     count: usize,
 }
 
 // What the sink is told at a return: the query's number, and the code of the binding's last step if that failed, else 0.
-#[derive(Clone, Copy, PartialEq, Eq, Debug)]
+#[derive(Clone, Copy)]
 pub struct Report {
     pub query: u32,
     pub code: u32,
 }
 
 // An execute that was not refused: what its step gave, and how many buffers came back.
-#[derive(Clone, Copy, PartialEq, Eq, Debug)]
+#[derive(Clone, Copy)]
 pub struct Executed {
     pub stepped: Stepped,
     pub returned: usize,

@@ -13,7 +13,7 @@ use super::Ledger;
 use crate::collector::Span;
 
 impl Ledger {
-    pub fn new() -> Ledger
+    pub(crate) fn new() -> Ledger
         ensures none { λ r. ⌜ leasesOf r ≡ [] ⌝ }
         ensures unused { λ r. ⌜ r .used ≡ 0 ⌝ }
     {
@@ -24,13 +24,13 @@ impl Ledger {
         }
     }
 
-    pub fn len(&self) -> usize
+    pub(crate) fn len(&self) -> usize
         ensures { λ r. ⌜ r ≡ length (leasesOf (now (self .entry))) ⌝ }
     {
         self.count
     }
 
-    pub fn as_slice(&self) -> &[Span]
+    pub(crate) fn as_slice(&self) -> &[Span]
         ensures { λ r. ⌜ now r ≡ leasesOf (now (self .entry)) ⌝ }
     {
         &self.leases[0..self.count]
@@ -38,7 +38,7 @@ impl Ledger {
 }
 
 impl ByteSlots {
-    pub fn new() -> ByteSlots
+    pub(crate) fn new() -> ByteSlots
         ensures { λ r. ⌜ slotsOf r ≡ [] ⌝ }
     {
         ByteSlots {
@@ -47,13 +47,13 @@ impl ByteSlots {
         }
     }
 
-    pub fn as_slice(&self) -> &[usize]
+    pub(crate) fn as_slice(&self) -> &[usize]
         ensures { λ r. ⌜ now r ≡ slotsOf (now (self .entry)) ⌝ }
     {
         &self.slots[0..self.count]
     }
 
-    pub fn push(&mut self, slot: usize)
+    pub(crate) fn push(&mut self, slot: usize)
         requires { ⌜ length (slotsOf (now self)) < 32 ⌝ }
         ensures { λ _. ⌜ slotsOf (now (self .exit)) ≡ slotsOf (now (self .entry)) ++ (slot ∷ []) ⌝ }
     {
@@ -87,7 +87,7 @@ impl Drop for Collecting<'_> {
 
 impl<'a> Collecting<'a> {
     // Begins a collection with no lease.
-    pub fn begin(ledger: &'a mut Ledger) -> Collecting<'a>
+    pub(crate) fn begin(ledger: &'a mut Ledger) -> Collecting<'a>
         ensures before { λ r. ⌜ r .before ≡ now (ledger .entry) ⌝ }
         ensures none { λ r. ⌜ leasesOf (now (r .ledger)) ≡ [] ⌝ }
         ensures unused { λ r. ⌜ now (r .ledger) .used ≡ 0 ⌝ }
@@ -99,7 +99,7 @@ impl<'a> Collecting<'a> {
     }
 
     // Enters the lease of an owned value where the last one ends.
-    pub fn enter(&mut self, owned: Option<Span>, room: usize) -> Result<(), Full>
+    pub(crate) fn enter(&mut self, owned: Option<Span>, room: usize) -> Result<(), Full>
         requires few { ⌜ length (leasesOf (now (now self .ledger))) < 32 ⌝ }
         requires fits { ⌜ now (now self .ledger) .used ≤ room ⌝ }
         ensures answer { λ r. ⌜ isOk r ≡ leb (now (now (self .entry) .ledger) .used + spanLength owned) room ⌝ }
@@ -126,14 +126,14 @@ impl<'a> Collecting<'a> {
     }
 
     // The leases so far.
-    pub fn leases(&self) -> Ledger
+    pub(crate) fn leases(&self) -> Ledger
         ensures { λ r. ⌜ r ≡ now (now (self .entry) .ledger) ⌝ }
     {
         *self.ledger
     }
 
     // Hands the collection on: the leases stay in the ledger.
-    pub fn hand_on(self) -> usize
+    pub(crate) fn hand_on(self) -> usize
         ensures count { λ r. ⌜ r ≡ length (leasesOf (now (self .entry .ledger))) ⌝ }
         ensures same { λ r. ⌜ now (self .exit .0) ≡ now (self .entry .ledger) ⌝ }
     {

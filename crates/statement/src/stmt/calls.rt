@@ -81,7 +81,7 @@ pub impl From<Full> for Refusal as RefusalFromFull {
 }
 
 impl Binding {
-    pub fn is_current(&self) -> bool
+    fn is_current(&self) -> bool
         ensures { λ r. ⌜ r ≡ isCurrent (now (self .entry)) ⌝ }
     {
         match *self {
@@ -161,7 +161,8 @@ impl<X: Host> Statement<X> {
     pub fn report(&self) -> Option<Report>
         ensures { λ r. ⌜ r ≡ stateOf (X·Host .meaning) (now (self .entry)) .report ⌝ }
     {
-        self.report
+        let Report { query, code } = self.report?;
+        Some(Report { query, code })
     }
 
     // What is tested before the values are looked at.

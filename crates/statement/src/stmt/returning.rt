@@ -7,7 +7,7 @@ use host::Host;
 use host::HostValue;
 
 // Makes each of the slots null.
-pub fn null_slots<X: Host>(host: &mut X, slots: &[usize])
+pub(crate) fn null_slots<X: Host>(host: &mut X, slots: &[usize])
     ensures { λ _. ⌜ X·Host .meaning (now (host .exit)) ≡ nulled (X·Host .meaning (now (host .entry))) (now (slots .entry)) ⌝ }
 {
     for slot in slots {
@@ -25,7 +25,7 @@ fn zero_span(span: Span, room: &mut [u8])
 }
 
 // Writes zeros over each of the leases.
-pub fn zero_leases(leases: &[Span], room: &mut [u8])
+pub(crate) fn zero_leases(leases: &[Span], room: &mut [u8])
     ensures { λ _. ⌜ now (room .exit) ≡ zeroed (now (leases .entry)) (now (room .entry)) ⌝ }
 {
     for lease in leases {

@@ -161,7 +161,7 @@ fn note(took: &mut ByteSlots, slot: usize, value: &SqliteBindValue)
 }
 
 // Binds the values in order, each at the slot of its number, and notes the slots that took text or bytes.
-pub fn bind_values<X: Host>(
+pub(crate) fn bind_values<X: Host>(
     host: &mut X,
     pairs: &[(SqliteType, SqliteBindValue)],
     text: &[u8],
@@ -188,7 +188,7 @@ pub fn bind_values<X: Host>(
 }
 
 // Enters the leases of the owned values, or stops where the room is too short.
-pub fn enter_leases(
+pub(crate) fn enter_leases(
     collecting: &mut Collecting<'_>,
     pairs: &[(SqliteType, SqliteBindValue)],
     room: usize,
@@ -241,7 +241,7 @@ fn write_one(owned: Option<Span>, given: &[u8], room: &mut [u8], at: usize)
 }
 
 // Copies each owned value into its own stretch of the room, one after the other from its start.
-pub fn write_owned(pairs: &[(SqliteType, SqliteBindValue)], given: &[u8], room: &mut [u8])
+pub(crate) fn write_owned(pairs: &[(SqliteType, SqliteBindValue)], given: &[u8], room: &mut [u8])
     requires inside { ⌜ allFit (length (now given)) ownedSpan (now pairs) ≡ true ⌝ }
     requires fits { ⌜ roomBytes (now pairs) ≤ length (now room) ⌝ }
     ensures { λ _. ⌜ now (room .exit) ≡ writtenRoom (now (pairs .entry)) (now (given .entry)) (now (room .entry)) ⌝ }

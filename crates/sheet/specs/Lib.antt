@@ -1,0 +1,7 @@
+pub mod Sheet
+pub mod Lines
+pub mod Places
+pub mod Decode
+pub mod Fine
+pub mod Program
+pub mod Scripted

@@ -44,7 +44,7 @@ fn show_all(
 }
 
 // What a trial of the input prints.
-pub fn play(heap: Global, input: &[u8]) -> Result<String, AllocError> {
+pub(crate) fn play(heap: Global, input: &[u8]) -> Result<String, AllocError> {
     let sheet = match read_sheet(input) {
         Err(bad) => return format!(heap, "s 20 {} 0\n", bad.line),
         Ok(sheet) => sheet,

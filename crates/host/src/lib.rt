@@ -155,7 +155,9 @@ impl<'a> HostValue<'a> {
 pub trait Host {
     ghost meaning: { Self → Meaning };
 
-    law sound: { (x : Self) → Sound (meaning x) };
+    // Shows what is so of every host, in every state. It does nothing: its contract is the fact.
+    fn laws(&self)
+        ensures { λ _. ⌜ Sound (meaning (now (self .entry))) ⌝ };
 
     fn parameter_count(&self) -> usize
         ensures { λ r. ⌜ r ≡ meaning (now (self .entry)) .params ⌝ };

@@ -205,6 +205,7 @@ pub fn perform_all<X: Host + Drop>(
     ensures copies { λ r. ⌜ made r (λ p. Copies (X·Host .meaning host) (stateOf (X·Host .meaning) (p .statement))) ⌝ }
 {
     let mut answers = Vec::with_capacity(heap, turns.len())?;
+    host.laws();
     let mut statement = Statement::new(host);
     let mut buffers = Buffers::new(heap);
     for turn in turns {

@@ -115,6 +115,9 @@ impl<'a> ScriptHost<'a> {
 pub impl<'a> Host for ScriptHost<'a> as ScriptPlays {
     ghost meaning = { meaningOf };
 
+    // A script host keeps the laws, since its sheet is well formed.
+    fn laws(&self) {}
+
     fn parameter_count(&self) -> usize {
         self.parameters
     }

@@ -46,5 +46,5 @@ returns g c =
     let b = c .into-iter-turn-iterator .ensures .becomes .0 in
     let x : Answers (m (c .args .host)) (vec-items (c .args .turns)) (vec-items (l .answers)) (stateOf m (l .statement)) (deskOf (l .buffers)) =
     record { told = answers-done _ _ _ _ none (l .inv .0) ∙ ap₂ answersTo a b; ends = after-done _ _ _ none (l .inv .1) ∙ ap₂ afterAll a b } in
-    let k = kept-run (m (c .args .host)) (vec-items (c .args .turns)) (vec-items (l .answers)) (stateOf m (l .statement)) (deskOf (l .buffers)) (g .X·Host·met .sound (c .args .host)) x in
+    let k = kept-run (m (c .args .host)) (vec-items (c .args .turns)) (vec-items (l .answers)) (stateOf m (l .statement)) (deskOf (l .buffers)) (c .laws .ensures) x in
     record { answers = x; steps = steps-law _ _ _ k; buffers = buffers-law _ _ _ k; copies = copies-law _ _ _ k }

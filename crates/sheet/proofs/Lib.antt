@@ -6,4 +6,3 @@ pub mod Decoded
 pub mod Reached
 pub mod Exclude
 pub mod Standing
-pub mod Hosted

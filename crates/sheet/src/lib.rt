@@ -14,7 +14,6 @@ use crate::reader::SheetReader;
 pub mod lines;
 pub mod play;
 pub mod reader;
-pub mod script;
 
 // The sheet is bad at this line, counted from 1: the first one that is broken or missing.
 #[derive(Clone, Copy, PartialEq, Eq, Debug)]

@@ -23,22 +23,6 @@ pub enum Played {
     End,
 }
 
-// An outcome by itself; a row by the place of its first value.
-#[derive(Clone, Copy)]
-pub enum Move {
-    Row(usize),
-    Done,
-    Failed(u32),
-}
-
-// An outcome, where the next one begins, and which one that is, counted from 0.
-#[derive(Clone, Copy)]
-pub struct Advance {
-    pub outcome: Move,
-    pub place: usize,
-    pub index: usize,
-}
-
 // The outcome at `place`, in so many columns.
 pub fn next_outcome(bytes: &[u8], columns: u64, place: usize) -> Played
     ensures { λ r. ⌜ ((os : List Outcome) → At (now (bytes .entry)) columns place os → Plays (now (bytes .entry)) columns os r) ⌝ }

@@ -1,9 +1,9 @@
 // What the sink is told, over a script host.
 #[cfg(test)]
 mod tests {
+    use script::player::ScriptHost;
+    use script::player::playing::ScriptPlays;
     use sheet::read_sheet;
-    use sheet::script::ScriptHost;
-    use sheet::script::playing::ScriptPlays;
     use statement::collector::Span;
     use statement::collector::SqliteBindValue;
     use statement::stmt::Report;

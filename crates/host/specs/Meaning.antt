@@ -29,6 +29,7 @@ Program = ℕ → List Value → Outcome × ℕ
 abbrev pub Copies : Type 0
 Copies = ℕ → Option Value
 
+-- What a host stands for.
 pub record Meaning : Type 0 where
   -- how many parameters there are, and the names of the columns
   pub params : ℕ
@@ -63,6 +64,7 @@ withPlace m p b r c = record { params = m .params; names = m .names; slots = m .
 abbrev pub bindTests : Meaning → ℕ → Slot → List (Bool × BindFault)
 bindTests m i s = (m .stepped, Misuse) ∷ (not (leb 1 i && leb i (m .params)), Range) ∷ (ltb (m .byteLimit) (slotLength s), TooBig) ∷ []
 
+-- Why a bind is refused, if it is.
 unfoldable pub bindFault : Meaning → ℕ → Slot → Option BindFault
 bindFault m i s = firstOf (bindTests m i s)
 
@@ -72,6 +74,7 @@ faultCode Misuse = 21
 faultCode Range = 25
 faultCode TooBig = 18
 
+-- The code after a bind.
 abbrev pub bindCode : Option BindFault → ℕ
 bindCode None = 0
 bindCode (Some f) = faultCode f
@@ -83,13 +86,16 @@ slotsAfter (Some Misuse) ss i s = ss
 slotsAfter (Some Range) ss i s = ss
 slotsAfter (Some TooBig) ss i s = set ss (i - 1) slot.Null
 
+-- The answer of a bind: success, or its fault.
 abbrev pub faultAnswer : Option BindFault → Result (Unit {0}) BindFault
 faultAnswer None = Ok tt
 faultAnswer (Some f) = Err f
 
+-- What a bind answers.
 unfoldable pub bindAnswer : Meaning → ℕ → Slot → Result (Unit {0}) BindFault
 bindAnswer m i s = faultAnswer (bindFault m i s)
 
+-- The host after a bind: only that slot and the code change.
 unfoldable pub bindAfter : Meaning → ℕ → Slot → Meaning
 bindAfter m i s = withSlots m (slotsAfter (bindFault m i s) (m .slots) i s) (bindCode (bindFault m i s))
 
@@ -101,11 +107,13 @@ resetAfter m = withPlace m (m .start) false None (m .code)
 unfoldable pub ran : Meaning → List ℕ → List ℕ → Outcome × ℕ
 ran m txt room = m .program (m .place) (map (slotValue txt room) (m .slots))
 
+-- The answer of a step, by what it gave.
 abbrev pub outcomeAnswer : Outcome → Result Stepped StepFault
 outcomeAnswer (row vs) = Ok Row
 outcomeAnswer done = Ok Done
 outcomeAnswer (failed c) = Err (record { code = c })
 
+-- The current row after a step.
 abbrev pub outcomeRow : Outcome → Option (List Value)
 outcomeRow (row vs) = Some vs
 outcomeRow done = None
@@ -117,8 +125,10 @@ outcomeCode (row vs) = 100
 outcomeCode done = 101
 outcomeCode (failed c) = c
 
+-- What a step answers.
 unfoldable pub stepAnswer : Meaning → List ℕ → List ℕ → Result Stepped StepFault
 stepAnswer m txt room = outcomeAnswer (ran m txt room .0)
 
+-- The host after a step: slots and copies stay.
 unfoldable pub stepAfter : Meaning → List ℕ → List ℕ → Meaning
 stepAfter m txt room = withPlace m (ran m txt room .1) true (outcomeRow (ran m txt room .0)) (outcomeCode (ran m txt room .0))

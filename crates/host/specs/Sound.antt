@@ -36,6 +36,7 @@ pub record Counted (live : Copies) (count : ℕ) : Type 0 where
   pub exact : (k : ℕ) → isSome (live k) ≡ among k numbers
   pub many : length numbers ≡ count
 
+-- The laws of a host.
 pub record Sound (m : Meaning) : Type 0 where
   pub few : m .params ≤ 32
   pub each : length (m .slots) ≡ m .params

@@ -54,14 +54,17 @@ bindEvent ps number figures =
 abbrev pub executeEvent : ℕ → ℕ × ℕ → Event
 executeEvent number figures = cond (eqb number 0 || eqb number 9) (stepped (figures .1)) nothing
 
+-- An end answered 0 has returned the binding.
 abbrev pub endEvent : ℕ → ℕ × ℕ → Event
 endEvent number figures = cond (eqb number 0) (ended (figures .1)) nothing
 
+-- What a call came to, by its answer's number and figures.
 abbrev pub eventBy : Asked → ℕ → ℕ × ℕ → Event
 eventBy (bind query ps) number figures = bindEvent ps number figures
 eventBy execute number figures = executeEvent number figures
 eventBy end number figures = endEvent number figures
 
+-- What a turn came to.
 abbrev pub eventOf : Turned → Event
 eventOf t = eventBy (t .asks) (answerNumber (t .answer)) (answerFigures (t .answer))
 
@@ -73,6 +76,7 @@ liveBy (stepped n) b = false
 liveBy (ended n) b = false
 liveBy nothing b = b
 
+-- Whether a binding is live after the past.
 unfoldable pub liveIn : Past → Bool
 liveIn [] = false
 liveIn (t ∷ h) = liveBy (eventOf t) (liveIn h)
@@ -85,6 +89,7 @@ stepsBy (stepped n) k = k + 1
 stepsBy (ended n) k = k
 stepsBy nothing k = k
 
+-- The steps answered in the past.
 unfoldable pub stepsIn : Past → ℕ
 stepsIn [] = 0
 stepsIn (t ∷ h) = stepsBy (eventOf t) (stepsIn h)
@@ -97,10 +102,12 @@ acceptedBy (stepped n) k = k
 acceptedBy (ended n) k = k
 acceptedBy nothing k = k
 
+-- The owned values that were accepted in the past.
 unfoldable pub acceptedIn : Past → ℕ
 acceptedIn [] = 0
 acceptedIn (t ∷ h) = acceptedBy (eventOf t) (acceptedIn h)
 
+-- Buffers come back with a step that returns the binding, a failed one too, and with an end.
 abbrev pub returnedBy : Event → ℕ → ℕ
 returnedBy (bound ps n) k = k
 returnedBy (undone ps z) k = k
@@ -108,6 +115,7 @@ returnedBy (stepped n) k = k + n
 returnedBy (ended n) k = k + n
 returnedBy nothing k = k
 
+-- The buffers reported returned in the past.
 unfoldable pub returnedIn : Past → ℕ
 returnedIn [] = 0
 returnedIn (t ∷ h) = returnedBy (eventOf t) (returnedIn h)
@@ -125,6 +133,7 @@ forget (slot.Double b) = slot.Double b
 forget (slot.Text p) = slot.Null
 forget (slot.Blob p) = slot.Null
 
+-- Slots of which the first is null.
 abbrev pub nullFirst : List Slot → List Slot
 nullFirst [] = []
 nullFirst (s ∷ ss) = slot.Null ∷ ss
@@ -138,6 +147,7 @@ slotsBy (stepped n) ss = map forget ss
 slotsBy (ended n) ss = map forget ss
 slotsBy nothing ss = ss
 
+-- The slots after the past: all null at set-up.
 unfoldable pub slotsIn : ℕ → Past → List Slot
 slotsIn params [] = replicate params slot.Null
 slotsIn params (t ∷ h) = slotsBy (eventOf t) (slotsIn params h)
@@ -155,6 +165,7 @@ placeBy (stepped n) p start at vs = p at vs .1
 placeBy (ended n) p start at vs = at
 placeBy nothing p start at vs = at
 
+-- The place of the program after the past.
 unfoldable pub placeIn : Meaning → Past → ℕ
 placeIn m [] = m .start
 placeIn m (t ∷ h) = placeBy (eventOf t) (m .program) (m .start) (placeIn m h) (valuesAt (m .params) h (t .lent))
@@ -165,6 +176,7 @@ stepNumber (row vs) = 0
 stepNumber done = 0
 stepNumber (failed c) = 9
 
+-- The first figure of a step's answer.
 abbrev pub stepFigure : Outcome → ℕ
 stepFigure (row vs) = 1
 stepFigure done = 2
@@ -174,6 +186,7 @@ stepFigure (failed c) = c
 abbrev pub RightStep : Outcome → Answer → Type 0
 RightStep o r = (answerNumber r ≡ stepNumber o) × (answerFigures r .0 ≡ stepFigure o)
 
+-- Only a step is answered out of the program.
 abbrev pub RightBy : Event → Outcome → Answer → Type 0
 RightBy (bound ps n) o r = Unit {0}
 RightBy (undone ps z) o r = Unit {0}
@@ -181,6 +194,7 @@ RightBy (stepped n) o r = RightStep o r
 RightBy (ended n) o r = Unit {0}
 RightBy nothing o r = Unit {0}
 
+-- Each step of the past was answered right after what came before it.
 unfoldable pub AllRight : Meaning → Past → Type 0
 AllRight m [] = Unit {0}
 AllRight m (t ∷ h) = RightBy (eventOf t) (m .program (placeIn m h) (valuesAt (m .params) h (t .lent)) .0) (t .answer) × AllRight m h
@@ -198,6 +212,7 @@ abbrev pub fromRoom : Source → ℕ
 fromRoom source.Text = 0
 fromRoom source.Room = 1
 
+-- 1 for a slot whose text or bytes are a part of the room.
 abbrev pub namesRoom : Slot → ℕ
 namesRoom slot.Null = 0
 namesRoom (slot.Long n) = 0
@@ -205,6 +220,7 @@ namesRoom (slot.Double b) = 0
 namesRoom (slot.Text p) = fromRoom (p .source)
 namesRoom (slot.Blob p) = fromRoom (p .source)
 
+-- How many slots name the room.
 unfoldable pub roomSlots : List Slot → ℕ
 roomSlots [] = 0
 roomSlots (s ∷ ss) = namesRoom s + roomSlots ss

@@ -48,6 +48,7 @@ pub data Asked : Type 0 where
   execute : Asked
   end : Asked
 
+-- The call of a turn, with its values as a list.
 abbrev pub asked : Call → Asked
 asked (Bind query pairs) = bind query (vec-items pairs)
 asked Execute = execute
@@ -64,6 +65,7 @@ pub record Desk : Type 0 where
   pub given : List ℕ
   pub room : List ℕ
 
+-- The bytes in the buffers.
 abbrev pub deskOf : Buffers → Desk
 deskOf b = record { text = vec-items (b .text); given = vec-items (b .given); room = vec-items (b .room) }
 
@@ -76,14 +78,17 @@ abbrev pub boundAnswer : Result ℕ Refusal → Answer
 boundAnswer (Ok n) = answer.Bound n
 boundAnswer (Err r) = answer.Refused r
 
+-- An execute's answer, or its refusal.
 abbrev pub executedAnswer : Result Executed Refusal → Answer
 executedAnswer (Ok x) = answer.Executed x
 executedAnswer (Err r) = answer.Refused r
 
+-- An end's answer, or its refusal.
 abbrev pub endedAnswer : Result ℕ Refusal → Answer
 endedAnswer (Ok n) = answer.Ended n
 endedAnswer (Err r) = answer.Refused r
 
+-- What a call is answered on the buffers lent to it.
 unfoldable pub says : State → Asked → Desk → Answer
 says s (bind query ps) d = boundAnswer (bindSays s ps (d .text) (d .given) (d .room))
 says s execute d = executedAnswer (executeSays s (d .text) (d .room))
@@ -113,9 +118,11 @@ pub record At : Type 0 where
   pub state : State
   pub desk : Desk
 
+-- What a turn is answered.
 abbrev pub turnSays : At → Turn → Answer
 turnSays a t = says (a .state) (asked (t .call)) (lentAt t (a .desk))
 
+-- The buffers after a turn.
 abbrev pub turnDesk : At → Turn → Desk
 turnDesk a t =
     record {
@@ -124,6 +131,7 @@ turnDesk a t =
       room = leaves (a .state) (asked (t .call)) (lentAt t (a .desk));
     }
 
+-- The statement and the buffers after a turn.
 unfoldable pub turnGoes : At → Turn → At
 turnGoes a t = record { state = goes (a .state) (asked (t .call)) (lentAt t (a .desk)); desk = turnDesk a t }
 
@@ -136,6 +144,7 @@ unfoldable pub afterAll : At → List Turn → At
 afterAll a [] = a
 afterAll a (t ∷ ts) = afterAll (turnGoes a t) ts
 
+-- The answers to a list of turns.
 unfoldable pub answersTo : At → List Turn → List Answer
 answersTo a [] = []
 answersTo a (t ∷ ts) = turnSays a t ∷ answersTo (turnGoes a t) ts

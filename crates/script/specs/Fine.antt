@@ -14,13 +14,16 @@ abbrev pub fineBytes : List ℕ → Bool
 fineBytes [] = true
 fineBytes (b ∷ bs) = (leb 33 b && leb b 126) && fineBytes bs
 
+-- A name of 1 to 32 graphic bytes.
 abbrev pub fineName : List ℕ → Bool
 fineName name = (leb 1 (length name) && leb (length name) 32) && fineBytes name
 
+-- Names that are all so.
 abbrev pub fineNames : List (List ℕ) → Bool
 fineNames [] = true
 fineNames (n ∷ ns) = fineName n && fineNames ns
 
+-- A value that a sheet may hold.
 abbrev pub fineValue : Value → Bool
 fineValue null = true
 fineValue (long z) = ltb (mag z) (2 ^ 63)
@@ -28,15 +31,18 @@ fineValue (double bits) = ltb bits (2 ^ 64) && leb (bits % 2 ^ 63) 9218868437227
 fineValue (text bs) = leb (length bs) 4096
 fineValue (blob bs) = leb (length bs) 4096
 
+-- Values that are all so.
 abbrev pub fineValues : List Value → Bool
 fineValues [] = true
 fineValues (v ∷ vs) = fineValue v && fineValues vs
 
+-- An outcome of so many columns that a sheet may hold.
 abbrev pub fineOutcome : ℕ → Outcome → Bool
 fineOutcome c (row vs) = eqb (length vs) c && fineValues vs
 fineOutcome c done = true
 fineOutcome c (failed k) = (leb 1 k && leb k 65535) && (not (eqb k 100) && not (eqb k 101))
 
+-- Outcomes that are all so.
 unfoldable pub fineOutcomes : ℕ → List Outcome → Bool
 fineOutcomes c [] = true
 fineOutcomes c (o ∷ os) = fineOutcome c o && fineOutcomes c os

@@ -67,9 +67,11 @@ outcomesAt (suc f) c (b ∷ s) =
 abbrev pub thirdAt : ℕ → ℕ → ℕ × List ℕ → Heading × List ℕ
 thirdAt c p q = (record { columns = c; parameters = p; «copy_limit» = q .0 }, q .1)
 
+-- The first line, once its first two figures are read.
 abbrev pub secondAt : ℕ → ℕ × List ℕ → Heading × List ℕ
 secondAt c q = thirdAt c (q .0) (figureAt 0 (q .1))
 
+-- The first line, once its first figure is read.
 abbrev pub firstAt : ℕ × List ℕ → Heading × List ℕ
 firstAt q = secondAt (q .0) (figureAt 0 (q .1))
 
@@ -77,9 +79,11 @@ firstAt q = secondAt (q .0) (figureAt 0 (q .1))
 abbrev pub belowParams : ℕ → Heading → List (List ℕ) → List ℕ × List ℕ → Sheet
 belowParams f h ns q = record { names = ns; params = q .0; copyLimit = h .«copy_limit»; outcomes = outcomesAt f (h .columns) (q .1) }
 
+-- The sheet, once its first line and the names are read.
 abbrev pub belowNames : ℕ → Heading → List (List ℕ) × List ℕ → Sheet
 belowNames f h q = belowParams f h (q .0) (paramsAt (h .parameters) (q .1))
 
+-- The sheet, once its first line is read.
 abbrev pub belowHeading : ℕ → Heading × List ℕ → Sheet
 belowHeading f q = belowNames f (q .0) (namesAt (q .0 .columns) (q .1))
 

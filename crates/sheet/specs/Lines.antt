@@ -102,6 +102,7 @@ SuitsHead table Done = table ≡ false
 SuitsHead table (Failed code) = table ≡ false
 SuitsHead table End = Unit {0}
 
+-- A head that may stand in a sheet, of a table or of a script.
 abbrev pub GoodHead : Bool → Head → Type 0
 GoodHead table h = SuitsHead table h × PlainHead h
 

@@ -131,6 +131,7 @@ Suits table (row vs) = Unit {0}
 Suits table done = table ≡ false
 Suits table (failed code) = table ≡ false
 
+-- What is so of a sheet as a whole.
 pub record WellFormed (s : Sheet) : Type 0 where
   pub heading : GoodHeading (headingOf s)
   pub names : All GoodName (s .names)

@@ -108,7 +108,7 @@ fn copy_count(s: &[u8]) -> Option<(u64, usize)>
 }
 
 // The first line.
-pub fn heading_line(s: &[u8]) -> Option<(Heading, usize)>
+pub(crate) fn heading_line(s: &[u8]) -> Option<(Heading, usize)>
     ensures { λ r. ⌜ Cases r (Lacks headingLine GoodHeading (now (s .entry))) (λ p. Reads headingLine GoodHeading (now (s .entry)) (p .0) (p .1)) ⌝ }
 {
     let (columns, i) = column_count(s)?;
@@ -132,7 +132,7 @@ fn name_piece(s: &[u8]) -> Option<Part>
 }
 
 // The line of a column: where its name stands.
-pub fn name_line(s: &[u8]) -> Option<(Part, usize)>
+pub(crate) fn name_line(s: &[u8]) -> Option<(Part, usize)>
     ensures { λ r. ⌜ Cases r (Lacks nameLine GoodName (now (s .entry))) (λ p. Reads nameLine GoodName (now (s .entry)) (partOf (now (s .entry)) (p .0)) (p .1) × PartWithin (now (s .entry)) (p .0)) ⌝ }
 {
     if !opens(s, b'C', b' ') {
@@ -160,7 +160,7 @@ fn column_figure(s: &[u8], columns: u64) -> Option<(u64, usize)>
 }
 
 // The line of a parameter: its column, from 1, or 0.
-pub fn param_line(s: &[u8], columns: u64) -> Option<(u64, usize)>
+pub(crate) fn param_line(s: &[u8], columns: u64) -> Option<(u64, usize)>
     ensures { λ r. ⌜ Cases r (Lacks paramLine (GoodParam columns) (now (s .entry))) (λ p. Reads paramLine (GoodParam columns) (now (s .entry)) (p .0) (p .1)) ⌝ }
 {
     if !opens(s, b'P', b' ') {
@@ -196,7 +196,7 @@ fn bytes_piece(s: &[u8]) -> Option<Part>
 }
 
 // The line of a value.
-pub fn value_line(s: &[u8]) -> Option<(Cell, usize)>
+pub(crate) fn value_line(s: &[u8]) -> Option<(Cell, usize)>
     ensures { λ r. ⌜ Cases r (Lacks valueLine GoodValue (now (s .entry))) (λ p. Reads valueLine GoodValue (now (s .entry)) (cellOf (now (s .entry)) (p .0)) (p .1) × CellWithin (now (s .entry)) (p .0)) ⌝ }
 {
     if opens(s, b'N', b'\n') {
@@ -252,7 +252,7 @@ fn failure_code(s: &[u8]) -> Option<(u64, usize)>
 }
 
 // The first line of an outcome, or the last line of a sheet.
-pub fn head_line(s: &[u8]) -> Option<(Head, usize)>
+pub(crate) fn head_line(s: &[u8]) -> Option<(Head, usize)>
     ensures { λ r. ⌜ Cases r (Lacks headLine PlainHead (now (s .entry))) (λ p. Reads headLine PlainHead (now (s .entry)) (p .0) (p .1)) ⌝ }
 {
     if opens(s, b'R', b'\n') {
@@ -282,7 +282,7 @@ fn suits(head: Head, table: bool) -> bool
 }
 
 // The same in a sheet that is a table or is none.
-pub fn outcome_line(s: &[u8], table: bool) -> Option<(Head, usize)>
+pub(crate) fn outcome_line(s: &[u8], table: bool) -> Option<(Head, usize)>
     ensures { λ r. ⌜ Cases r (Lacks headLine (GoodHead table) (now (s .entry))) (λ p. Reads headLine (GoodHead table) (now (s .entry)) (p .0) (p .1)) ⌝ }
 {
     let (head, n) = head_line(s)?;

@@ -16,6 +16,7 @@ use Rattle.statement.specs.declared.collector.Span.{Span}
 use Rattle.statement.specs.declared.collector.SqliteBindValue.{SqliteBindValue}
 use Rattle.statement.specs.declared.collector.SqliteBindValue.the-variants.{BorrowedString, String, BorrowedBinary, Binary, I32, I64, F64, Null}
 
+-- A declared type and a value.
 abbrev pub Pair : Type 0
 Pair = SqliteType × SqliteBindValue
 
@@ -68,6 +69,7 @@ takesBytes Null = false
 abbrev pub spanInside : ℕ → Span → Bool
 spanInside size s = leb (s .start + s .len) size
 
+-- A stretch that is there lies inside so many bytes.
 abbrev pub spanFits : ℕ → Option Span → Bool
 spanFits size None = true
 spanFits size (Some s) = spanInside size s
@@ -76,10 +78,12 @@ spanFits size (Some s) = spanInside size s
 abbrev pub valueInside : ℕ → ℕ → SqliteBindValue → Bool
 valueInside txt given v = spanFits txt (borrowedSpan v) && spanFits given (ownedSpan v)
 
+-- Each stretch of a kind lies inside so many bytes.
 unfoldable pub allFit : ℕ → (SqliteBindValue → Option Span) → List Pair → Bool
 allFit size f [] = true
 allFit size f (p ∷ ps) = spanFits size (f (p .1)) && allFit size f ps
 
+-- Each value lies inside its buffer.
 abbrev pub allInside : ℕ → ℕ → List Pair → Bool
 allInside txt given ps = allFit txt borrowedSpan ps && allFit given ownedSpan ps
 
@@ -88,6 +92,7 @@ abbrev pub spanLength : Option Span → ℕ
 spanLength None = 0
 spanLength (Some s) = s .len
 
+-- 1 for a value that takes a lease.
 abbrev pub oneIf : Option Span → ℕ
 oneIf None = 0
 oneIf (Some s) = 1
@@ -107,6 +112,7 @@ abbrev pub leaseOf : ℕ → Option Span → List Span
 leaseOf at None = []
 leaseOf at (Some s) = record { start = at; len = s .len } ∷ []
 
+-- The leases of all owned values.
 unfoldable pub leasesFrom : ℕ → List Pair → List Span
 leasesFrom at [] = []
 leasesFrom at (p ∷ ps) = leaseOf at (ownedSpan (p .1)) ++ leasesFrom (at + spanLength (ownedSpan (p .1))) ps
@@ -116,6 +122,7 @@ abbrev pub spanBytes : List ℕ → Option Span → List ℕ
 spanBytes given None = []
 spanBytes given (Some s) = take (s .len) (drop (s .start) given)
 
+-- The bytes of all owned values.
 unfoldable pub ownedBytes : List ℕ → List Pair → List ℕ
 ownedBytes given [] = []
 ownedBytes given (p ∷ ps) = spanBytes given (ownedSpan (p .1)) ++ ownedBytes given ps
@@ -125,6 +132,7 @@ abbrev pub numberIf : Bool → ℕ → List ℕ
 numberIf true i = i ∷ []
 numberIf false i = []
 
+-- The numbers of all slots that take text or bytes.
 unfoldable pub byteSlots : ℕ → List Pair → List ℕ
 byteSlots i [] = []
 byteSlots i (p ∷ ps) = numberIf (takesBytes (p .1)) i ++ byteSlots (i + 1) ps

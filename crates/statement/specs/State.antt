@@ -18,6 +18,7 @@ use Rattle.statement.specs.declared.stmt.Refusal.{Refusal}
 use Rattle.statement.specs.declared.stmt.Refusal.the-variants.{WrongState, Length, RowHeld, TooManyValues, Outside, Unpaired, RoomShort, NotBound, StepFailed, StepsSpent}
 use Rattle.statement.specs.Leases.{leasesOf, slotsOf}
 
+-- A statement by its host's meaning and its own fields.
 pub record State : Type 0 where
   pub host : Meaning
   pub binding : Binding
@@ -33,6 +34,7 @@ pub record State : Type 0 where
   -- the latest report, if there was one
   pub report : Option Report
 
+-- The state of a statement.
 abbrev pub stateOf : {X : Type 0} → (X → Meaning) → Statement X → State
 stateOf meaning s = record { host = meaning (s .host); binding = s .binding; held = s .held .count; query = s .query; leases = leasesOf (s .ledger); nulls = slotsOf (s .nulls); lengths = s .lengths; steps = s .steps; report = s .report }
 
@@ -62,10 +64,12 @@ refusalFigures (NotBound v f) = (v, faultCode f)
 refusalFigures (StepFailed c n) = (c, n)
 refusalFigures StepsSpent = (0, 0)
 
+-- Whether a binding is current.
 abbrev pub isCurrent : Binding → Bool
 isCurrent AtRest = false
 isCurrent Unstepped = true
 
+-- The same statement over another host.
 abbrev pub withHost : State → Meaning → State
 withHost s m = record { host = m; binding = s .binding; held = s .held; query = s .query; leases = s .leases; nulls = s .nulls; lengths = s .lengths; steps = s .steps; report = s .report }
 
@@ -87,5 +91,6 @@ countUp i (suc n) = i ∷ countUp (i + 1) n
 abbrev pub setUpHost : Meaning → Meaning
 setUpHost m = cleared m (countUp 1 (m .params))
 
+-- A statement that was just set up over a host.
 abbrev pub setUp : Meaning → State
 setUp m = record { host = setUpHost m; binding = AtRest; held = 0; query = 0; leases = []; nulls = []; lengths = record { text = 0; room = 0 }; steps = 0; report = None }

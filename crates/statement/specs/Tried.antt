@@ -20,6 +20,7 @@ pub record Tried : Type 0 where
   pub bound : ℕ
   pub why : Option Unbindable
 
+-- The three parts as one.
 abbrev pub tried : Meaning → ℕ → Option Unbindable → Tried
 tried m n w = record { host = m; bound = n; why = w }
 
@@ -27,16 +28,20 @@ tried m n w = record { host = m; bound = n; why = w }
 abbrev pub faultUnbindable : BindFault → Unbindable
 faultUnbindable f = Fault f
 
+-- The host's fault as a reason.
 abbrev pub faultWhy : Option BindFault → Option Unbindable
 faultWhy None = None
 faultWhy (Some f) = Some (faultUnbindable f)
 
+-- Why a value is not bound at a slot.
 abbrev pub oneWhy : Meaning → ℕ → ℕ → Pair → Option Unbindable
 oneWhy m i at p = cond (pairsUp (p .0) (p .1)) (faultWhy (bindFault m i (slotFor at (p .1)))) (Some Unpaired)
 
+-- The host after a value was tried at a slot: one that does not pair never reaches it.
 abbrev pub oneAfter : Meaning → ℕ → ℕ → Pair → Meaning
 oneAfter m i at p = cond (pairsUp (p .0) (p .1)) (bindAfter m i (slotFor at (p .1))) m
 
+-- A reason, or none, as an answer.
 abbrev pub whyAnswer : Option Unbindable → Result (Unit {0}) Unbindable
 whyAnswer None = Ok tt
 whyAnswer (Some w) = Err w
@@ -46,6 +51,7 @@ abbrev pub goOn : Option Unbindable → Tried → Tried → Tried
 goOn None stop rest = rest
 goOn (Some w) stop rest = stop
 
+-- How far the values come, after so many that are bound.
 unfoldable pub bindFrom : Meaning → ℕ → ℕ → List Pair → Tried
 bindFrom m n at [] = tried m n None
 bindFrom m n at (p ∷ ps) =
@@ -58,9 +64,11 @@ abbrev pub refusalAt : ℕ → Unbindable → Refusal
 refusalAt n Unpaired = refusal.Unpaired (n + 1)
 refusalAt n (Fault f) = refusal.NotBound (n + 1) f
 
+-- A reason, or none, as the answer of a bind.
 abbrev pub whyRefusal : ℕ → Option Unbindable → Result (Unit {0}) Refusal
 whyRefusal n None = Ok tt
 whyRefusal n (Some w) = Err (refusalAt n w)
 
+-- The answer of a bind's values.
 abbrev pub triedAnswer : Tried → Result (Unit {0}) Refusal
 triedAnswer t = whyRefusal (t .bound) (t .why)

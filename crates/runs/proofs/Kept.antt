@@ -21,21 +21,22 @@ use Rattle.host.specs.declared.Slot.{Slot}
 use Rattle.host.specs.declared.Slot.the-variants as slot
 use Rattle.host.specs.declared.BindFault.{BindFault}
 use Rattle.host.specs.declared.BindFault.the-variants.{Misuse, Range, TooBig}
-use Rattle.statement.specs.declared.stmt.Refusal.{Refusal}
-use Rattle.statement.specs.declared.stmt.taking.Unbindable.{Unbindable}
-use Rattle.statement.specs.declared.stmt.taking.Unbindable.the-variants.{Unpaired, Fault}
-use Rattle.statement.specs.Pairs.{Pair, slotFor, ownedSpan, spanLength, ownedCount, leasesFrom, byteSlots}
-use Rattle.statement.specs.State.{State, isCurrent, nulled, cleared, countUp, setUp, setUpHost}
-use Rattle.statement.specs.Tried.{Tried, tried, bindFrom}
+use Rattle.binds.specs.declared.refusal.Refusal.{Refusal}
+use Rattle.binds.specs.declared.taking.Unbindable.{Unbindable}
+use Rattle.binds.specs.declared.taking.Unbindable.the-variants.{Unpaired, Fault}
+use Rattle.binds.specs.Pairs.{Pair, slotFor, ownedSpan, spanLength, ownedCount, leasesFrom, byteSlots}
+use Rattle.statement.specs.State.{State, isCurrent, setUp, setUpHost}
+use Rattle.binds.specs.Cleared.{nulled, cleared, countUp}
+use Rattle.binds.specs.Tried.{Tried, tried, bindFrom}
 use Rattle.statement.proofs.Taken.{all-bound, leases-count}
 use Rattle.runs.specs.Turns.{Asked, bind, execute, end, Desk, says, goes}
 use Rattle.runs.specs.declared.turns.Answer.{Answer}
 use Rattle.runs.specs.declared.turns.Answer.the-variants as answer
-use Rattle.statement.specs.State.{refusalNumber, refusalFigures}
+use Rattle.binds.specs.Refusals.{refusalNumber, refusalFigures}
 use Rattle.statement.specs.Calls.{bindTests, executeTests, currentTests, undone as undoneHost, saysBy, takenBy, whySays, whyTaken, boundIf, currentState, takenState, bindSays, bindGoes, executeSays, executeGoes, executeSaysBy, executeGoesBy, endSays, endGoes, endSaysBy, endGoesBy, steppedSays, steppedState, reportCode, returnedState}
 use Rattle.statement.specs.declared.stmt.Lengths.{Lengths}
 use Rattle.statement.specs.State.{withHost}
-use Rattle.statement.specs.Tried.{refusalAt}
+use Rattle.binds.specs.Tried.{refusalAt}
 use Rattle.runs.specs.Turns.{boundAnswer, executedAnswer, endedAnswer}
 use Rattle.runs.specs.Past.{bound, undone, stepped, ended, nothing, bindEvent, executeEvent, endEvent, eventBy, liveBy, stepsBy, acceptedBy, returnedBy, slotsBy, placeBy, RightBy, RightStep}
 use Rattle.runs.specs.Past.{Turned, Past, Event, eventOf, liveIn, stepsIn, acceptedIn, returnedIn, slotsFrom, forget, nullFirst, slotsIn, valuesAt, placeIn, stepNumber, stepFigure, AllRight}

@@ -14,9 +14,9 @@ use Rattle.host.specs.Slots.{doubleSlot}
 use Rattle.host.specs.Sound.{Sound}
 use Rattle.host.specs.declared.Slot.{Slot}
 use Rattle.host.specs.declared.Slot.the-variants as slot
-use Rattle.statement.specs.declared.collector.SqliteBindValue.{SqliteBindValue}
-use Rattle.statement.specs.declared.collector.SqliteBindValue.the-variants.{BorrowedString, String, BorrowedBinary, Binary, I32, I64, F64, Null}
-use Rattle.statement.specs.Pairs.{Pair, slotFor, ownedSpan, spanLength, oneIf, ownedCount, leasesFrom}
+use Rattle.binds.specs.declared.collector.SqliteBindValue.{SqliteBindValue}
+use Rattle.binds.specs.declared.collector.SqliteBindValue.the-variants.{BorrowedString, String, BorrowedBinary, Binary, I32, I64, F64, Null}
+use Rattle.binds.specs.Pairs.{Pair, slotFor, ownedSpan, spanLength, oneIf, ownedCount, leasesFrom}
 use Rattle.statement.specs.State.{State}
 use Rattle.statement.proofs.Taken.{leases-count}
 use Rattle.runs.specs.Turns.{asked, lentAt, Desk, At, turnSays, turnGoes, starting, afterAll, answersTo, Answers}

@@ -19,14 +19,14 @@ use Rattle.host.specs.declared.Slot.{Slot}
 use Rattle.host.specs.declared.Slot.the-variants as slot
 use Rattle.host.specs.declared.BindFault.{BindFault}
 use Rattle.host.specs.declared.BindFault.the-variants.{Misuse, Range, TooBig}
-use Rattle.statement.specs.declared.stmt.taking.Unbindable.{Unbindable}
-use Rattle.statement.specs.declared.stmt.taking.Unbindable.the-variants.{Unpaired, Fault}
-use Rattle.statement.specs.Pairs.{Pair, pairsUp, slotFor, ownedSpan, spanLength, takesBytes, byteSlots, numberIf}
-use Rattle.statement.specs.State.{nulled, countUp}
-use Rattle.statement.specs.Tried.{Tried, tried, oneWhy, oneAfter, goOn, bindFrom}
+use Rattle.binds.specs.declared.taking.Unbindable.{Unbindable}
+use Rattle.binds.specs.declared.taking.Unbindable.the-variants.{Unpaired, Fault}
+use Rattle.binds.specs.Pairs.{Pair, pairsUp, slotFor, ownedSpan, spanLength, takesBytes, byteSlots, numberIf}
+use Rattle.binds.specs.Cleared.{nulled, countUp}
+use Rattle.binds.specs.Tried.{Tried, tried, oneWhy, oneAfter, goOn, bindFrom}
 use Rattle.runs.specs.Past.{slotsFrom, nullFirst, forget}
-use Rattle.statement.specs.declared.collector.SqliteBindValue.{SqliteBindValue}
-use Rattle.statement.specs.declared.collector.SqliteBindValue.the-variants.{BorrowedString, String, BorrowedBinary, Binary, I32, I64, F64, Null}
+use Rattle.binds.specs.declared.collector.SqliteBindValue.{SqliteBindValue}
+use Rattle.binds.specs.declared.collector.SqliteBindValue.the-variants.{BorrowedString, String, BorrowedBinary, Binary, I32, I64, F64, Null}
 use lib.Ieee as Ieee
 use lib.Ieee.{binary64}
 

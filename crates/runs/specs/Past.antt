@@ -13,7 +13,7 @@ use Rattle.host.specs.declared.Source.{Source}
 use Rattle.host.specs.declared.Source.the-variants as source
 use Rattle.host.specs.declared.Slot.{Slot}
 use Rattle.host.specs.declared.Slot.the-variants as slot
-use Rattle.statement.specs.Pairs.{Pair, slotFor, ownedSpan, spanLength}
+use Rattle.binds.specs.Pairs.{Pair, slotFor, ownedSpan, spanLength}
 use Rattle.statement.specs.State.{State}
 use Rattle.runs.specs.Turns.{Asked, bind, execute, end, asked, Desk, lentAt, At, turnGoes, answerNumber, answerFigures}
 use Rattle.runs.specs.declared.turns.Turn.{Turn}

@@ -9,11 +9,12 @@ use Rattle.std.specs.declared.result.Result.the-variants.{Ok, Err}
 use Rattle.host.specs.Meaning.{Meaning}
 use Rattle.host.specs.declared.Stepped.{Stepped}
 use Rattle.host.specs.declared.Stepped.the-variants.{Row, Done}
-use Rattle.statement.specs.Pairs.{Pair}
-use Rattle.statement.specs.State.{State, setUp, refusalNumber, refusalFigures}
+use Rattle.binds.specs.Pairs.{Pair}
+use Rattle.statement.specs.State.{State, setUp}
+use Rattle.binds.specs.Refusals.{refusalNumber, refusalFigures}
 use Rattle.statement.specs.Calls.{bindSays, bindGoes, bindLeaves, executeSays, executeGoes, executeLeaves, endSays, endGoes, endLeaves}
 use Rattle.statement.specs.declared.stmt.Executed.{Executed}
-use Rattle.statement.specs.declared.stmt.Refusal.{Refusal}
+use Rattle.binds.specs.declared.refusal.Refusal.{Refusal}
 use Rattle.runs.specs.declared.turns.Call.{Call}
 use Rattle.runs.specs.declared.turns.Call.the-variants.{Bind, Execute, End}
 use Rattle.runs.specs.declared.turns.Lent.{Lent}

@@ -1,7 +1,7 @@
 // A call with what is lent at it, and what it is answered.
-use statement::collector::SqliteBindValue;
+use binds::collector::SqliteBindValue;
+use binds::refusal::Refusal;
 use statement::stmt::Executed;
-use statement::stmt::Refusal;
 use statement::stmt::Statement;
 use values::SqliteType;
 

@@ -18,14 +18,16 @@ use Rattle.host.specs.declared.Stepped.{Stepped}
 use Rattle.host.specs.declared.StepFault.{StepFault}
 use Rattle.statement.specs.declared.stmt.Lengths.{Lengths}
 use Rattle.statement.specs.declared.stmt.Executed.{Executed}
-use Rattle.statement.specs.declared.stmt.Refusal.{Refusal}
-use Rattle.statement.specs.declared.stmt.Refusal.the-variants.{WrongState, RowHeld, Length, TooManyValues, Outside, StepsSpent}
-use Rattle.statement.specs.Pairs.{Pair, allInside, roomBytes}
-use Rattle.statement.specs.Leases.{zeroed}
-use Rattle.statement.specs.State.{State, isCurrent, nulled, countUp, setUpHost, setUp}
-use Rattle.statement.specs.declared.collector.Span.{Span}
+use Rattle.binds.specs.declared.refusal.Refusal.{Refusal}
+use Rattle.binds.specs.declared.refusal.Refusal.the-variants.{WrongState, RowHeld, Length, TooManyValues, Outside, StepsSpent}
+use Rattle.binds.specs.Pairs.{Pair, allInside, roomBytes}
+use Rattle.binds.specs.Leases.{zeroed}
+use Rattle.statement.specs.State.{State, isCurrent, setUpHost, setUp}
+use Rattle.binds.specs.Cleared.{nulled, countUp}
+use Rattle.binds.specs.declared.collector.Span.{Span}
 use Rattle.statement.specs.declared.stmt.Binding.the-variants.{AtRest}
-use Rattle.statement.specs.Calls.{testAnswer, tooLong, mayBindTests, mayBindAnswer, roomShort, takeTests, triedOf, saysBy, takenBy, leavesBy, boundIf, currentState, takeSays, takeGoes, takeLeaves, bindTests, bindSays, bindGoes, bindLeaves, currentTests, currentAnswer, executeTests, steppedSays, steppedState, returnedState, reportCode, executeSays, executeGoes, executeLeaves, endSays, endGoes, endLeaves}
+use Rattle.statement.specs.Calls.{testAnswer, tooLong, mayBindTests, mayBindAnswer, takeTests, triedOf, saysBy, takenBy, leavesBy, boundIf, currentState, takeSays, takeGoes, takeLeaves, bindTests, bindSays, bindGoes, bindLeaves, currentTests, currentAnswer, executeTests, steppedSays, steppedState, returnedState, reportCode, executeSays, executeGoes, executeLeaves, endSays, endGoes, endLeaves}
+use Rattle.binds.specs.Refusals.{roomShort}
 
 never : {A : Type 0} → _≡_ {A = ℕ} 0 1 → A
 never e = absurd (omega arith)

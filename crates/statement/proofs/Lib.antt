@@ -1,5 +1,2 @@
-mod Values
-mod Steps
-mod Collect
 pub mod Taken
 mod Called

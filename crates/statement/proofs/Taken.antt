@@ -14,17 +14,20 @@ use Rattle.std.specs.declared.option.Option.the-variants.{Some, None}
 use Rattle.std.specs.declared.result.Result.{Result}
 use Rattle.std.specs.declared.result.Result.the-variants.{Ok, Err}
 use Rattle.host.specs.Meaning.{Meaning, resetAfter}
-use Rattle.statement.specs.declared.collector.Span.{Span}
-use Rattle.statement.specs.declared.ledger.Ledger.{Ledger}
-use Rattle.statement.specs.declared.ledger.ByteSlots.{ByteSlots}
+use Rattle.binds.specs.declared.collector.Span.{Span}
+use Rattle.binds.specs.declared.ledger.Ledger.{Ledger}
+use Rattle.binds.specs.declared.ledger.ByteSlots.{ByteSlots}
 use Rattle.statement.specs.declared.stmt.Statement.{Statement}
-use Rattle.statement.specs.declared.stmt.Refusal.{Refusal}
-use Rattle.statement.specs.declared.stmt.taking.Unbindable.{Unbindable}
-use Rattle.statement.specs.Pairs.{Pair, borrowedSpan, ownedSpan, allFit, allInside, oneIf, leaseOf, spanLength, ownedCount, roomBytes, leasesFrom, byteSlots}
-use Rattle.statement.specs.Leases.{leasesOf, slotsOf, zeroed}
-use Rattle.statement.specs.State.{State, stateOf, nulled, cleared}
-use Rattle.statement.specs.Tried.{Tried, tried, oneWhy, oneAfter, goOn, bindFrom, refusalAt, whyRefusal, triedAnswer}
-use Rattle.statement.specs.Calls.{roomShort, writtenRoom, undone, triedOf, saysBy, takenBy, leavesBy, takeSays, takeGoes, takeLeaves}
+use Rattle.binds.specs.declared.refusal.Refusal.{Refusal}
+use Rattle.binds.specs.declared.taking.Unbindable.{Unbindable}
+use Rattle.binds.specs.Pairs.{Pair, borrowedSpan, ownedSpan, allFit, allInside, oneIf, leaseOf, spanLength, ownedCount, roomBytes, leasesFrom, byteSlots}
+use Rattle.binds.specs.Leases.{leasesOf, slotsOf, zeroed}
+use Rattle.statement.specs.State.{State, stateOf}
+use Rattle.binds.specs.Cleared.{nulled, cleared}
+use Rattle.binds.specs.Tried.{Tried, tried, oneWhy, oneAfter, goOn, bindFrom, refusalAt, whyRefusal, triedAnswer}
+use Rattle.statement.specs.Calls.{undone, triedOf, saysBy, takenBy, leavesBy, takeSays, takeGoes, takeLeaves}
+use Rattle.binds.specs.Pairs.{writtenRoom}
+use Rattle.binds.specs.Refusals.{roomShort}
 
 -- the two tests of the buffers
 pub inside-parts : (txt given : ℕ) (ps : List Pair) → allInside txt given ps ≡ true → (allFit txt borrowedSpan ps ≡ true) × (allFit given ownedSpan ps ≡ true)

@@ -12,18 +12,19 @@ use Rattle.values.specs.Order.{firstOf}
 use Rattle.host.specs.Meaning.{Meaning, stepAnswer, stepAfter}
 use Rattle.host.specs.declared.Stepped.{Stepped}
 use Rattle.host.specs.declared.StepFault.{StepFault}
-use Rattle.statement.specs.declared.collector.Span.{Span}
+use Rattle.binds.specs.declared.collector.Span.{Span}
 use Rattle.statement.specs.declared.stmt.Binding.the-variants.{AtRest, Unstepped}
 use Rattle.statement.specs.declared.stmt.Lengths.{Lengths}
 use Rattle.statement.specs.declared.stmt.Report.{Report}
 use Rattle.statement.specs.declared.stmt.Executed.{Executed}
-use Rattle.statement.specs.declared.stmt.Refusal.{Refusal}
-use Rattle.statement.specs.declared.stmt.Refusal.the-variants.{WrongState, Length, RowHeld, TooManyValues, Outside, RoomShort, StepFailed, StepsSpent}
-use Rattle.statement.specs.Pairs.{Pair, allInside, ownedCount, roomBytes, leasesFrom, ownedBytes, byteSlots}
-use Rattle.statement.specs.Leases.{zeroed}
-use Rattle.statement.specs.State.{State, isCurrent, withHost, cleared}
-use Rattle.statement.specs.Tried.{Tried, bindFrom, refusalAt}
-use Rattle.statement.specs.declared.stmt.taking.Unbindable.{Unbindable}
+use Rattle.binds.specs.declared.refusal.Refusal.{Refusal}
+use Rattle.binds.specs.declared.refusal.Refusal.the-variants.{WrongState, Length, RowHeld, TooManyValues, Outside, RoomShort, StepFailed, StepsSpent}
+use Rattle.binds.specs.Pairs.{Pair, allInside, ownedCount, roomBytes, leasesFrom, byteSlots, writtenRoom}
+use Rattle.binds.specs.Leases.{zeroed}
+use Rattle.statement.specs.State.{State, isCurrent, withHost}
+use Rattle.binds.specs.Cleared.{cleared}
+use Rattle.binds.specs.Tried.{Tried, bindFrom, refusalAt}
+use Rattle.binds.specs.declared.taking.Unbindable.{Unbindable}
 
 -- The text, the given bytes and the room may have 65,536 bytes.
 abbrev pub tooLong : ℕ → ℕ → ℕ → Bool
@@ -48,17 +49,9 @@ testAnswer (Some r) = Err r
 unfoldable pub mayBindAnswer : State → List Pair → List ℕ → List ℕ → ℕ → Result (Unit {0}) Refusal
 mayBindAnswer s ps txt given room = testAnswer (firstOf (mayBindTests s ps txt given room))
 
--- The refusal of a room that is too short for the owned values.
-abbrev pub roomShort : Refusal
-roomShort = RoomShort
-
 -- All tests before any value is bound: the owned values must fit the room, too.
 abbrev pub bindTests : State → List Pair → List ℕ → List ℕ → ℕ → List (Bool × Refusal)
 bindTests s ps txt given room = mayBindTests s ps txt given room ++ ((ltb room (roomBytes ps), RoomShort) ∷ [])
-
--- The room once the owned values are copied into it, one after the other from its start.
-unfoldable pub writtenRoom : List Pair → List ℕ → List ℕ → List ℕ
-writtenRoom ps given room = ownedBytes given ps ++ drop (roomBytes ps) room
 
 -- Once the tests have passed, how far the values came decides.
 abbrev pub whySays : List Pair → ℕ → Option Unbindable → Result ℕ Refusal

@@ -1,4 +1,2 @@
 // The statement path over any host: set up, bind, execute, end.
-pub mod collector;
-pub mod ledger;
 pub mod stmt;

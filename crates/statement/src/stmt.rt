@@ -1,29 +1,9 @@
 // A statement over a host: its binding, what it has lent in the room, and its report.
-use crate::ledger::ByteSlots;
-use crate::ledger::Ledger;
-use host::BindFault;
+use binds::ledger::ByteSlots;
+use binds::ledger::Ledger;
 use host::Stepped;
 
 pub mod calls;
-pub mod returning;
-pub mod taking;
-
-// What a call is refused for.
-#[derive(Clone, Copy)]
-pub enum Refusal {
-    // a binding is current where none may be, or the other way round
-    WrongState,
-    // a buffer is too long, or has another length than at the bind
-    Length,
-    RowHeld,
-    TooManyValues,
-    Outside,
-    Unpaired { value: usize },
-    RoomShort,
-    NotBound { value: usize, fault: BindFault },
-    StepFailed { code: u32, returned: usize },
-    StepsSpent,
-}
 
 // Whether a binding is current.
 #[derive(Clone, Copy)]

@@ -1,11 +1,11 @@
 // What the sink is told, over a script host.
 #[cfg(test)]
 mod tests {
+    use binds::collector::Span;
+    use binds::collector::SqliteBindValue;
     use script::player::ScriptHost;
     use script::player::playing::ScriptPlays;
     use sheet::read_sheet;
-    use statement::collector::Span;
-    use statement::collector::SqliteBindValue;
     use statement::stmt::Report;
     use statement::stmt::Statement;
     use std::test::*;

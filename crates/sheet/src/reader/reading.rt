@@ -55,7 +55,7 @@ fn with_column(table: bool, column: u64) -> bool
 
 impl<'a> SheetReader<'a> {
     // At the first line.
-    pub fn new(bytes: &'a [u8]) -> SheetReader<'a>
+    pub(crate) fn new(bytes: &'a [u8]) -> SheetReader<'a>
         ensures bytes { λ r. ⌜ now (r .bytes) ≡ now (bytes .entry) ⌝ }
         ensures place { λ r. ⌜ r .place ≡ 0 ⌝ }
         ensures line { λ r. ⌜ r .line ≡ 1 ⌝ }
@@ -68,7 +68,7 @@ impl<'a> SheetReader<'a> {
     }
 
     // At the line that begins at `place`, counted as the first.
-    pub fn at(bytes: &'a [u8], place: usize) -> SheetReader<'a>
+    pub(crate) fn at(bytes: &'a [u8], place: usize) -> SheetReader<'a>
         ensures bytes { λ r. ⌜ now (r .bytes) ≡ now (bytes .entry) ⌝ }
         ensures place { λ r. ⌜ (place ≤ length (now (bytes .entry)) → r .place ≡ place) ⌝ }
     {
@@ -84,7 +84,7 @@ impl<'a> SheetReader<'a> {
     }
 
     // Where the next line begins.
-    pub fn place(&self) -> usize
+    pub(crate) fn place(&self) -> usize
         ensures { λ r. ⌜ r ≡ now (self .entry) .place ⌝ }
     {
         self.place
@@ -116,7 +116,7 @@ impl<'a> SheetReader<'a> {
     }
 
     // The first line.
-    pub fn heading(&mut self) -> Result<Heading, BadSheet>
+    pub(crate) fn heading(&mut self) -> Result<Heading, BadSheet>
         ensures read { λ r. ⌜ ByOk r
             (λ h. Moved headingLine GoodHeading (now (now (self .entry) .bytes)) (now (self .entry) .place) (now (self .entry) .line) h (now (self .exit) .place) (now (self .exit) .line))
             (λ b. Stuck headingLine GoodHeading (now (now (self .entry) .bytes)) (now (self .entry) .place) (now (self .entry) .line) (b .line)) ⌝ }
@@ -130,7 +130,7 @@ impl<'a> SheetReader<'a> {
     }
 
     // The name of a column.
-    pub fn name(&mut self) -> Result<Part, BadSheet>
+    pub(crate) fn name(&mut self) -> Result<Part, BadSheet>
         ensures read { λ r. ⌜ ByOk r
             (λ p. Moved nameLine GoodName (now (now (self .entry) .bytes)) (now (self .entry) .place) (now (self .entry) .line) (partOf (now (now (self .entry) .bytes)) p) (now (self .exit) .place) (now (self .exit) .line) × PartWithin (now (now (self .entry) .bytes)) p)
             (λ b. Stuck nameLine GoodName (now (now (self .entry) .bytes)) (now (self .entry) .place) (now (self .entry) .line) (b .line)) ⌝ }
@@ -145,7 +145,7 @@ impl<'a> SheetReader<'a> {
     }
 
     // The column of a parameter, one of so many, or 0.
-    pub fn parameter(&mut self, columns: u64) -> Result<u64, BadSheet>
+    pub(crate) fn parameter(&mut self, columns: u64) -> Result<u64, BadSheet>
         ensures read { λ r. ⌜ ByOk r
             (λ k. Moved paramLine (GoodParam columns) (now (now (self .entry) .bytes)) (now (self .entry) .place) (now (self .entry) .line) k (now (self .exit) .place) (now (self .exit) .line))
             (λ b. Stuck paramLine (GoodParam columns) (now (now (self .entry) .bytes)) (now (self .entry) .place) (now (self .entry) .line) (b .line)) ⌝ }
@@ -159,7 +159,7 @@ impl<'a> SheetReader<'a> {
     }
 
     // A value of a row.
-    pub fn value(&mut self) -> Result<Cell, BadSheet>
+    pub(crate) fn value(&mut self) -> Result<Cell, BadSheet>
         ensures read { λ r. ⌜ ByOk r
             (λ v. Moved valueLine GoodValue (now (now (self .entry) .bytes)) (now (self .entry) .place) (now (self .entry) .line) (cellOf (now (now (self .entry) .bytes)) v) (now (self .exit) .place) (now (self .exit) .line) × CellWithin (now (now (self .entry) .bytes)) v)
             (λ b. Stuck valueLine GoodValue (now (now (self .entry) .bytes)) (now (self .entry) .place) (now (self .entry) .line) (b .line)) ⌝ }
@@ -175,7 +175,7 @@ impl<'a> SheetReader<'a> {
     }
 
     // The first line of an outcome, or the last line.
-    pub fn outcome(&mut self, table: bool) -> Result<Head, BadSheet>
+    pub(crate) fn outcome(&mut self, table: bool) -> Result<Head, BadSheet>
         ensures read { λ r. ⌜ ByOk r
             (λ h. Moved headLine (GoodHead table) (now (now (self .entry) .bytes)) (now (self .entry) .place) (now (self .entry) .line) h (now (self .exit) .place) (now (self .exit) .line))
             (λ b. Stuck headLine (GoodHead table) (now (now (self .entry) .bytes)) (now (self .entry) .place) (now (self .entry) .line) (b .line)) ⌝ }
@@ -189,7 +189,7 @@ impl<'a> SheetReader<'a> {
     }
 
     // The names of the columns.
-    pub fn names(&mut self, columns: u64) -> Result<(), BadSheet>
+    pub(crate) fn names(&mut self, columns: u64) -> Result<(), BadSheet>
         ensures read { λ r. ⌜ ByOk r
             (λ _. Block nameLine GoodName (now (now (self .entry) .bytes)) (now (self .entry) .place) columns (now (self .exit) .place) × (now (self .exit) .line ≡ now (self .entry) .line + columns))
             (λ b. Breaks nameLine GoodName (now (now (self .entry) .bytes)) (now (self .entry) .place) (now (self .entry) .line) columns (b .line)) ⌝ }
@@ -202,7 +202,7 @@ impl<'a> SheetReader<'a> {
     }
 
     // The parameters, and whether some of them names a column.
-    pub fn parameters(&mut self, columns: u64, parameters: u64) -> Result<bool, BadSheet>
+    pub(crate) fn parameters(&mut self, columns: u64, parameters: u64) -> Result<bool, BadSheet>
         ensures read { λ r. ⌜ ByOk r
             (λ table. (b : Block paramLine (GoodParam columns) (now (now (self .entry) .bytes)) (now (self .entry) .place) parameters (now (self .exit) .place)) × (table ≡ namesColumn (b .items)) × (now (self .exit) .line ≡ now (self .entry) .line + parameters))
             (λ b. Breaks paramLine (GoodParam columns) (now (now (self .entry) .bytes)) (now (self .entry) .place) (now (self .entry) .line) parameters (b .line)) ⌝ }
@@ -217,7 +217,7 @@ impl<'a> SheetReader<'a> {
     }
 
     // The values of a row.
-    pub fn row(&mut self, columns: u64) -> Result<(), BadSheet>
+    pub(crate) fn row(&mut self, columns: u64) -> Result<(), BadSheet>
         ensures read { λ r. ⌜ ByOk r
             (λ _. Block valueLine GoodValue (now (now (self .entry) .bytes)) (now (self .entry) .place) columns (now (self .exit) .place) × (now (self .exit) .line ≡ now (self .entry) .line + columns))
             (λ b. Breaks valueLine GoodValue (now (now (self .entry) .bytes)) (now (self .entry) .place) (now (self .entry) .line) columns (b .line)) ⌝ }
@@ -230,7 +230,7 @@ impl<'a> SheetReader<'a> {
     }
 
     // The outcomes and the last line.
-    pub fn outcomes(&mut self, columns: u64, table: bool) -> Result<(), BadSheet>
+    pub(crate) fn outcomes(&mut self, columns: u64, table: bool) -> Result<(), BadSheet>
         ensures read { λ r. ⌜ ByOk r
             (λ _. Ended (now (now (self .entry) .bytes)) columns table (now (self .entry) .place) (now (self .exit) .place))
             (λ b. OutcomesBreak (now (now (self .entry) .bytes)) columns table (now (self .entry) .place) (now (self .entry) .line) (b .line)) ⌝ }

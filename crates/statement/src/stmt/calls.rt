@@ -5,31 +5,31 @@ ghost use Prim.Native.Nat.{_≤_, _<_};
 ghost use lib.Dec.{ltb};
 ghost use lib.ListN.{length};
 ghost use Rattle.std.specs.Results.{isOk};
-ghost use Rattle.statement.specs.Pairs.{borrowedSpan, ownedSpan, allFit, allInside};
-ghost use Rattle.statement.specs.Leases.{zeroed};
-ghost use Rattle.statement.specs.State.{stateOf, setUp, isCurrent, refusalNumber, refusalFigures, countUp, nulled};
-ghost use Rattle.statement.specs.Calls.{roomShort, tooLong, sameLengths, mayBindAnswer, takeSays, takeGoes, takeLeaves, bindSays, bindGoes, bindLeaves, returnedState, currentAnswer, reportCode, steppedState, executeSays, executeGoes, executeLeaves, endSays, endGoes, endLeaves};
+ghost use Rattle.binds.specs.Pairs.{borrowedSpan, ownedSpan, allFit, allInside};
+ghost use Rattle.binds.specs.Leases.{zeroed};
+ghost use Rattle.statement.specs.State.{stateOf, setUp, isCurrent};
+ghost use Rattle.statement.specs.Calls.{tooLong, sameLengths, mayBindAnswer, takeSays, takeGoes, takeLeaves, bindSays, bindGoes, bindLeaves, returnedState, currentAnswer, reportCode, steppedState, executeSays, executeGoes, executeLeaves, endSays, endGoes, endLeaves};
 ghost use Rattle.host.specs.Meaning.{stepAnswer, resetAfter};
 use super::Binding;
 use super::Executed;
 use super::HeldRows;
 use super::Lengths;
-use super::Refusal;
 use super::Report;
 use super::Statement;
-use super::returning::null_slots;
-use super::returning::zero_leases;
-use super::taking::bind_values;
-use super::taking::enter_leases;
-use super::taking::write_owned;
-use crate::collector::SqliteBindValue;
-use crate::collector::all_inside;
-use crate::ledger::ByteSlots;
-use crate::ledger::Ledger;
-use crate::ledger::collecting::Collecting;
-use crate::ledger::collecting::Full;
+use binds::collector::SqliteBindValue;
+use binds::collector::all_inside;
+use binds::ledger::ByteSlots;
+use binds::ledger::Ledger;
+use binds::ledger::collecting::Collecting;
+use binds::refusal::Refusal;
+use binds::refusal::RefusalFromFull;
+use binds::returning::null_every;
+use binds::returning::null_slots;
+use binds::returning::zero_leases;
+use binds::taking::bind_values;
+use binds::taking::enter_leases;
+use binds::taking::write_owned;
 use host::Host;
-use host::HostValue;
 use host::StepFault;
 use host::Stepped;
 use values::SqliteType;
@@ -39,46 +39,6 @@ const LONGEST: usize = 65536;
 
 // The most steps of a statement.
 const LAST_STEP: u32 = 4294967295;
-
-impl Refusal {
-    // The number by which a call answers the refusal.
-    pub fn number(&self) -> u32
-        ensures { λ r. ⌜ r ≡ refusalNumber (now (self .entry)) ⌝ }
-    {
-        match *self {
-            Refusal::WrongState => 1,
-            Refusal::Length => 2,
-            Refusal::RowHeld => 3,
-            Refusal::TooManyValues => 4,
-            Refusal::Outside => 5,
-            Refusal::Unpaired { .. } => 6,
-            Refusal::RoomShort => 7,
-            Refusal::NotBound { .. } => 8,
-            Refusal::StepFailed { .. } => 9,
-            Refusal::StepsSpent => 19,
-        }
-    }
-
-    // Its two figures.
-    pub fn figures(&self) -> (usize, usize)
-        ensures { λ r. ⌜ r ≡ refusalFigures (now (self .entry)) ⌝ }
-    {
-        match *self {
-            Refusal::Unpaired { value } => (value, 0),
-            Refusal::NotBound { value, fault } => (value, fault.code() as usize),
-            Refusal::StepFailed { code, returned } => (code as usize, returned),
-            _ => (0, 0),
-        }
-    }
-}
-
-pub impl From<Full> for Refusal as RefusalFromFull {
-    ghost converts = { λ _ r. r ≡ roomShort };
-
-    fn from(_full: Full) -> Refusal {
-        Refusal::RoomShort
-    }
-}
 
 impl Binding {
     fn is_current(&self) -> bool
@@ -123,16 +83,6 @@ fn report_code(stepped: &Result<Stepped, StepFault>) -> u32
     match *stepped {
         Ok(_) => 0,
         Err(fault) => fault.code,
-    }
-}
-
-// Makes each slot of a host null.
-fn null_every<X: Host>(host: &mut X)
-    ensures { λ _. ⌜ X·Host .meaning (now (host .exit)) ≡ nulled (X·Host .meaning (now (host .entry))) (countUp 1 (X·Host .meaning (now (host .entry)) .params)) ⌝ }
-{
-    let n = host.parameter_count();
-    for i in 0..n {
-        let _ = host.bind(i + 1, HostValue::null());
     }
 }
 

@@ -3,7 +3,7 @@ use native.Mathlib.Omega.{arith}
 use mathlib.Core.Path.{_≡_, refl, sym, ap, _∙_}
 use Rattle.std.proofs.shelf.Results.{err-from-errBy}
 use lib.ListN.{length}
-use Rattle.statement.specs.Leases.{leasesOf}
+use Rattle.binds.specs.Leases.{leasesOf}
 use Rattle.statement.specs.State.{stateOf}
 use Rattle.statement.proofs.Taken.{inside-parts, is-short, is-wide, short-says, short-goes, short-leaves, refused-says, refused-goes, refused-leaves, taken-says, taken-goes, taken-leaves}
 use Rattle.statement.proofs.stmt.Statement.take_up.Needs as need

@@ -1,8 +1,16 @@
 // The value lines of a bind call: a letter, the number of the declared type, and then what the letter asks for.
-ghost use Prim.Native.Nat.{ℕ, _+_, _^_, _≤_, _<_};
-ghost use lib.ListN.{length};
+ghost use mathlib.Core.Path.{_≡_};
+ghost use mathlib.Core.List.{List};
+ghost use Prim.Native.Nat.{ℕ, _+_, _-_, _^_, _≤_, _<_};
+ghost use lib.ListN.{length, drop};
+ghost use lib.Signed.{mag};
 ghost use Rattle.std.specs.Options.{Cases};
-ghost use Rattle.calls.specs.Items.{ContentWithin, movedBy};
+ghost use Rattle.std.specs.Orderings.{Decides};
+ghost use Rattle.values.specs.Types.{typeNumber};
+ghost use Rattle.figures.specs.Figures.{stopByte, Figured, Numbered};
+ghost use Rattle.sheet.specs.Sheet.{Numeric};
+ghost use Rattle.sheet.specs.Lines.{Reads, Lacks, NoDouble};
+ghost use Rattle.calls.specs.Items.{behindType, itemLine, GoodEntry, AskedBy, NoType, NoSmall, datumOf, entryOf, ContentWithin, movedBy};
 use figures::Part;
 use figures::Stop;
 use figures::figure;
@@ -44,19 +52,26 @@ const SIGN: u64 = 0x8000_0000_0000_0000;
 
 // The declared type in front, and how many bytes it takes with what ends it.
 fn declared(s: &[u8], stop: Stop) -> Option<(SqliteType, usize)>
-    ensures { λ r. ⌜ Cases r (Unit {0}) (λ p. p .1 ≤ length (now (s .entry))) ⌝ }
+    ensures { λ r. ⌜ Cases r (NoType (stopByte stop) (now (s .entry))) (λ p. Figured (stopByte stop) 7 (now (s .entry)) (typeNumber (p .0)) (p .1)) ⌝ }
 {
     let (n, k) = figure(s, stop, 7)?;
     let tpe = SqliteType::from_number(n as u32)?;
     Some((tpe, k))
 }
 
+// Whether a number has 32 bits.
+fn fits_small(n: i64) -> bool
+    ensures { λ r. ⌜ Decides r (mag n < 2 ^ 31) ⌝ }
+{
+    n >= -2147483648 && n <= 2147483647
+}
+
 // A signed 32-bit figure, and the end of the line.
 fn small(s: &[u8]) -> Option<(i32, usize)>
-    ensures { λ r. ⌜ Cases r (Unit {0}) (λ p. p .1 ≤ length (now (s .entry))) ⌝ }
+    ensures { λ r. ⌜ Cases r (NoSmall (now (s .entry))) (λ p. Numbered 10 (now (s .entry)) (p .0) (p .1) × (mag (p .0) < 2 ^ 31)) ⌝ }
 {
     let (n, k) = number(s, Stop::Line)?;
-    if n < -2147483648 || n > 2147483647 {
+    if !fits_small(n) {
         return None;
     }
     Some((n as i32, k))
@@ -64,7 +79,7 @@ fn small(s: &[u8]) -> Option<(i32, usize)>
 
 // The bit pattern of a Double that is a number, and the end of the line.
 fn double_bits(s: &[u8]) -> Option<(u64, usize)>
-    ensures { λ r. ⌜ Cases r (Unit {0}) (λ p. p .1 ≤ length (now (s .entry))) ⌝ }
+    ensures { λ r. ⌜ Cases r (NoDouble (now (s .entry))) (λ p. Figured 10 (2 ^ 64 - 1) (now (s .entry)) (p .0) (p .1) × Numeric (p .0)) ⌝ }
 {
     let (bits, k) = figure(s, Stop::Line, 18446744073709551615)?;
     if bits % SIGN > INFINITY {
@@ -75,7 +90,7 @@ fn double_bits(s: &[u8]) -> Option<(u64, usize)>
 
 // What the letter asks for, behind the declared type.
 fn behind_type(letter: u8, s: &[u8]) -> Option<(Content, usize)>
-    ensures { λ r. ⌜ Cases r (Unit {0}) (λ p. (p .1 ≤ length (now (s .entry))) × ContentWithin (length (now (s .entry))) (p .0)) ⌝ }
+    ensures { λ r. ⌜ Cases r (Lacks behindType (AskedBy letter) (now (s .entry))) (λ p. Reads behindType (AskedBy letter) (now (s .entry)) (datumOf (now (s .entry)) (p .0)) (p .1) × ContentWithin (length (now (s .entry))) (p .0)) ⌝ }
 {
     if letter == b'I' {
         let (n, k) = small(s)?;
@@ -102,7 +117,7 @@ fn behind_type(letter: u8, s: &[u8]) -> Option<(Content, usize)>
 
 // The value line in front: the item, its bytes placed in `s`, and how many bytes the line takes.
 pub(crate) fn item_line(s: &[u8]) -> Option<(Item, usize)>
-    ensures { λ r. ⌜ Cases r (Unit {0}) (λ p. (0 < p .1) × (p .1 ≤ length (now (s .entry))) × ContentWithin (length (now (s .entry))) (p .0 .content)) ⌝ }
+    ensures { λ r. ⌜ Cases r (Lacks itemLine GoodEntry (now (s .entry))) (λ p. Reads itemLine GoodEntry (now (s .entry)) (entryOf (now (s .entry)) (p .0)) (p .1) × ContentWithin (length (now (s .entry))) (p .0 .content)) ⌝ }
 {
     if s.len() < 2 || s[1] != b' ' {
         return None;
@@ -134,7 +149,8 @@ impl Content {
     // The same, with bytes that stand further on.
     fn moved(self, by: usize) -> Content
         requires { ⌜ movedBy by self < 2 ^ 64 ⌝ }
-        ensures { λ r. ⌜ ((n m : ℕ) → ContentWithin n self → n + by ≤ m → ContentWithin m r) ⌝ }
+        ensures within { λ r. ⌜ ((n m : ℕ) → ContentWithin n self → n + by ≤ m → ContentWithin m r) ⌝ }
+        ensures datum { λ r. ⌜ ((s : List ℕ) → datumOf s r ≡ datumOf (drop by s) self) ⌝ }
     {
         match self {
             Content::Text(ownership, part) => Content::Text(

@@ -3,25 +3,29 @@ ghost use denote.Ref.{now};
 ghost use mathlib.Core.Path.{_≡_};
 ghost use mathlib.Core.Bool.{true};
 ghost use mathlib.Core.List.{_∷_};
-ghost use Prim.Native.Nat.{_≤_, _<_};
+ghost use Prim.Native.Nat.{_+_, _≤_, _<_};
 ghost use lib.ListN.{length, getD, drop};
-ghost use Rattle.std.specs.Of.Vec.{vec-len};
+ghost use Rattle.std.specs.Of.Vec.{vec-len, vec-items};
 ghost use Rattle.std.specs.Vec.{made};
 ghost use Rattle.std.specs.Options.{Cases};
 ghost use Rattle.std.specs.Orderings.{Decides};
 ghost use Rattle.std.specs.Results.{isOk, Cases as ByOk};
+ghost use Rattle.sheet.specs.Lines.{Reads, Lacks, partOf};
+ghost use Rattle.calls.specs.Items.{itemLine, datumOf, ContentWithin};
+ghost use Rattle.calls.specs.Binds.{noMemory, noValues, withBytes, nextSpan, withDatum, Roomy, GoodNext, bundleOf, Because, Kept, TakenIn, LineTaken, ValuesRead, NoLines};
+ghost use Rattle.calls.specs.Calls.{bindLine, callLines, GoodHead, GoodCall, TurnRead, CallsRead};
 use crate::items::Content;
 use crate::items::MOST_BYTES;
 use crate::items::Ownership;
 use crate::items::item_line;
-use binds::collector::Span;
-use binds::collector::SqliteBindValue;
 use figures::Part;
 use figures::Stop;
 use figures::figure;
 use runs::turns::Call;
 use runs::turns::Lent;
 use runs::turns::Turn;
+use binds::collector::Span;
+use binds::collector::SqliteBindValue;
 use std::alloc::AllocError;
 use std::alloc::Global;
 use std::alloc::Refused;
@@ -35,12 +39,16 @@ pub(crate) enum CallFault {
 }
 
 impl From<AllocError> for CallFault as CallFaultFromAlloc {
+    ghost converts = { λ _ r. r ≡ noMemory };
+
     fn from(_e: AllocError) -> CallFault {
         CallFault::Memory
     }
 }
 
 impl<T: Drop> From<Refused<T>> for CallFault as CallFaultFromRefused {
+    ghost converts = { λ _ r. r ≡ noMemory };
+
     fn from(_e: Refused<T>) -> CallFault {
         CallFault::Memory
     }
@@ -55,7 +63,11 @@ struct Values {
 }
 
 // Appends bytes to a buffer, and says where they stand in it; a buffer that grows too long makes the call malformed.
-fn keep(buffer: &mut Vec<u8>, bytes: &[u8]) -> Result<Span, CallFault> {
+fn keep(buffer: &mut Vec<u8>, bytes: &[u8]) -> Result<Span, CallFault>
+    ensures { λ r. ⌜ ByOk r
+        (λ span. Kept (vec-items (now (buffer .entry))) (vec-items (now (buffer .exit))) (now (bytes .entry)) span)
+        (Because (65536 < length (vec-items (now (buffer .entry))) + length (now (bytes .entry)))) ⌝ }
+{
     let start = buffer.len();
     if start > MOST_BYTES || bytes.len() > MOST_BYTES - start {
         return Err(CallFault::Malformed);
@@ -68,7 +80,9 @@ fn keep(buffer: &mut Vec<u8>, bytes: &[u8]) -> Result<Span, CallFault> {
 }
 
 // The bytes of a part, if it lies inside.
-fn part_bytes(s: &[u8], part: Part) -> Option<&[u8]> {
+fn part_bytes(s: &[u8], part: Part) -> Option<&[u8]>
+    ensures { λ r. ⌜ Cases r (length (now (s .entry)) < part .from + part .len) (λ b. now b ≡ partOf (now (s .entry)) part) ⌝ }
+{
     if part.from > s.len() || part.len > s.len() - part.from {
         return None;
     }
@@ -78,7 +92,9 @@ fn part_bytes(s: &[u8], part: Part) -> Option<&[u8]> {
 }
 
 impl Values {
-    fn new(heap: Global) -> Values {
+    fn new(heap: Global) -> Values
+        ensures { λ r. ⌜ bundleOf r ≡ noValues ⌝ }
+    {
         Values {
             pairs: Vec::new(heap),
             text: Vec::new(heap),
@@ -86,7 +102,12 @@ impl Values {
         }
     }
 
-    fn kept(&mut self, ownership: Ownership, s: &[u8], part: Part) -> Result<Span, CallFault> {
+    fn kept(&mut self, ownership: Ownership, s: &[u8], part: Part) -> Result<Span, CallFault>
+        requires { ⌜ part .from + part .len ≤ length (now s) ⌝ ∗ ⌜ Roomy (bundleOf (now self)) ⌝ }
+        ensures { λ r. ⌜ ByOk r
+            (λ span. (span ≡ nextSpan ownership (partOf (now (s .entry)) part) (bundleOf (now (self .entry)))) × (bundleOf (now (self .exit)) ≡ withBytes ownership (partOf (now (s .entry)) part) (bundleOf (now (self .entry)))) × Roomy (withBytes ownership (partOf (now (s .entry)) part) (bundleOf (now (self .entry)))))
+            (Because (Roomy (withBytes ownership (partOf (now (s .entry)) part) (bundleOf (now (self .entry)))) → ⊥)) ⌝ }
+    {
         let Some(bytes) = part_bytes(s, part) else {
             return Err(CallFault::Malformed);
         };
@@ -97,7 +118,12 @@ impl Values {
     }
 
     // The value that a line holds, with its bytes taken into the text or the given bytes.
-    fn value(&mut self, s: &[u8], content: Content) -> Result<SqliteBindValue, CallFault> {
+    fn value(&mut self, s: &[u8], content: Content) -> Result<SqliteBindValue, CallFault>
+        requires { ⌜ ContentWithin (length (now s)) content ⌝ ∗ ⌜ Roomy (bundleOf (now self)) ⌝ }
+        ensures { λ r. ⌜ ByOk r
+            (λ v. TakenIn (bundleOf (now (self .entry))) (bundleOf (now (self .exit))) (datumOf (now (s .entry)) content) v)
+            (Because (Roomy (withDatum (datumOf (now (s .entry)) content) (bundleOf (now (self .entry)))) → ⊥)) ⌝ }
+    {
         match content {
             Content::Null => Ok(SqliteBindValue::Null),
             Content::I32(n) => Ok(SqliteBindValue::I32(n)),
@@ -126,7 +152,10 @@ impl Values {
 
     // Takes up the value line in front of `s`, and says how many bytes it takes.
     fn take_line(&mut self, s: &[u8]) -> Result<usize, CallFault>
-        ensures { λ r. ⌜ ByOk r (λ n. n ≤ length (now (s .entry))) (λ _. Unit {0}) ⌝ }
+        requires { ⌜ Roomy (bundleOf (now self)) ⌝ }
+        ensures { λ r. ⌜ ByOk r
+            (λ n. LineTaken (bundleOf (now (self .entry))) (bundleOf (now (self .exit))) (now (s .entry)) n)
+            (Because (Lacks itemLine (GoodNext (bundleOf (now (self .entry)))) (now (s .entry)))) ⌝ }
     {
         let Some((item, n)) = item_line(s) else {
             return Err(CallFault::Malformed);
@@ -157,7 +186,7 @@ const MOST_FIGURE: u64 = 4294967295;
 
 // The first line of a bind: the query's number, how many values follow, and how many bytes the line takes.
 fn bind_line(s: &[u8]) -> Option<(u32, u64, usize)>
-    ensures { λ r. ⌜ Cases r (Unit {0}) (λ p. (0 < p .2) × (p .2 ≤ length (now (s .entry)))) ⌝ }
+    ensures { λ r. ⌜ Cases r (Lacks bindLine GoodHead (now (s .entry))) (λ p. Reads bindLine GoodHead (now (s .entry)) (p .0, p .1) (p .2)) ⌝ }
 {
     if s.len() < 2 || s[0] != b'b' || s[1] != b' ' {
         return None;
@@ -177,7 +206,7 @@ impl<'a> CallReader<'a> {
 
     // The letter in front, if any.
     pub(crate) fn letter(&self) -> Option<u8>
-        ensures { λ r. ⌜ Cases r (now (self .entry) .place ≡ length (now (now (self .entry) .bytes))) (λ b. b ≡ getD (now (now (self .entry) .bytes)) (now (self .entry) .place) 0) ⌝ }
+        ensures { λ r. ⌜ Cases r (now (self .entry) .place ≡ length (now (now (self .entry) .bytes))) (λ b. (now (self .entry) .place < length (now (now (self .entry) .bytes))) × (b ≡ getD (now (now (self .entry) .bytes)) (now (self .entry) .place) 0)) ⌝ }
     {
         if self.place == self.bytes.len() {
             return None;
@@ -189,6 +218,9 @@ impl<'a> CallReader<'a> {
     pub(crate) fn next_turn(&mut self, heap: Global) -> Result<Turn, CallFault>
         ensures same { λ _. ⌜ now (now (self .exit) .bytes) ≡ now (now (self .entry) .bytes) ⌝ }
         ensures moved { λ r. ⌜ (isOk r ≡ true → now (self .entry) .place < now (self .exit) .place) ⌝ }
+        ensures read { λ r. ⌜ ByOk r
+            (λ t. TurnRead (now (now (self .entry) .bytes)) (now (self .entry) .place) (now (self .exit) .place) t)
+            (Because (Lacks callLines GoodCall (drop (now (self .entry) .place) (now (now (self .entry) .bytes))))) ⌝ }
     {
         let rest = &self.bytes[self.place..];
         if is_letter(rest, b'x') {
@@ -227,6 +259,9 @@ impl<'a> CallReader<'a> {
     fn values(&mut self, heap: Global, count: u64) -> Result<Values, CallFault>
         ensures same { λ _. ⌜ now (now (self .exit) .bytes) ≡ now (now (self .entry) .bytes) ⌝ }
         ensures moved { λ _. ⌜ now (self .entry) .place ≤ now (self .exit) .place ⌝ }
+        ensures read { λ r. ⌜ ByOk r
+            (λ v. ValuesRead (now (now (self .entry) .bytes)) (now (self .entry) .place) count (now (self .exit) .place) (bundleOf v))
+            (Because (NoLines (now (now (self .entry) .bytes)) (now (self .entry) .place) count)) ⌝ }
     {
         let mut values = Values::new(heap);
         for _ in 0..count {
@@ -247,7 +282,8 @@ pub struct Calls {
 
 // Reads calls as far as they are well formed. The first turn lends the room, and the others keep it.
 pub fn read_calls(heap: Global, bytes: &[u8], room: Vec<u8>) -> Result<Calls, AllocError>
-    ensures { λ r. ⌜ made r (λ c. vec-len (c .letters) ≡ vec-len (c .turns)) ⌝ }
+    ensures count { λ r. ⌜ made r (λ c. vec-len (c .letters) ≡ vec-len (c .turns)) ⌝ }
+    ensures read { λ r. ⌜ made r (λ c. CallsRead (now (bytes .entry)) (vec-items room) (vec-items (c .letters)) (vec-items (c .turns)) (c .malformed)) ⌝ }
 {
     let mut reader = CallReader::new(bytes);
     let mut letters = Vec::new(heap);

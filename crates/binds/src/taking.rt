@@ -59,7 +59,7 @@ impl Unbindable {
     }
 }
 
-// A text or bytes as the host takes them: from the text if borrowed, else from the room.
+// A text as the host takes it: from the text if borrowed, else from the room.
 fn text_value<'a>(part: Part, text: &'a [u8], room: &'a [u8]) -> HostValue<'a>
     requires { ⌜ part .start + part .len ≤ length (lent (now text) (now room) (part .source)) ⌝ }
     ensures { λ r. ⌜ slotOf r ≡ Slot.Text part ⌝ }

@@ -1,3 +1,5 @@
 // The calls that a trial is given, read from lent bytes as turns.
+#![tactic(auto)]
+
 mod items;
 pub mod turns;

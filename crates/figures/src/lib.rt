@@ -1,5 +1,7 @@
 // Decimal figures in lent bytes. A figure has no leading zero and no plus; `-0` is none.
 // Each function says what stands in front of the bytes, or that no such thing stands there.
+#![tactic(auto)]
+
 ghost use Rattle.std.specs.Prelude.{◌≡◌, ℕ, ◌+◌, ◌-◌, ◌*◌, ◌^◌, ◌<◌, ◌≤◌, List, [], ◌∷◌, ◌++◌, length, negsuc, decimal, MatchOption};
 ghost use Rattle.std.specs.Fmt.{signed_decimal};
 ghost use Rattle.figures.specs.Figures.{Run, stop_byte, Figured, NoFigure, Pieced, NoPiece, Numbered, NoNumber};

@@ -1,4 +1,6 @@
 // What is believed of any host of rows.
+#![tactic(auto)]
+
 ghost use Rattle.std.specs.Prelude.{◌≡◌, ◌<◌, ◌≤◌, [], length, MatchOption, slice_index_or};
 ghost use Rattle.host.specs.Slots.{within, part_bytes, slot_of, slot_length};
 ghost use Rattle.host.specs.Meaning.{Meaning, bind_answer, bind_after, reset_after, step_answer, step_after, fault_code};

@@ -1,5 +1,7 @@
 // A sheet: the columns, the parameters and the outcomes of a statement, read out of lent bytes.
 // It is lines, each ending in byte 10: the counts, a line for each column and for each parameter, the outcomes, and the line `E`.
+#![tactic(auto)]
+
 ghost use Rattle.std.specs.Prelude.{◌≡◌, ℕ, ◌<◌, ◌≤◌, length, take, Decides, MatchResult};
 ghost use Rattle.sheet.specs.Sheet.{RefusedAt, Exclusive};
 ghost use Rattle.sheet.specs.Places.{Accepted, ByName};

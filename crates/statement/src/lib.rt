@@ -1,2 +1,4 @@
 // The statement path over any host: set up, bind, execute, end.
+#![tactic(auto)]
+
 pub mod stmt;

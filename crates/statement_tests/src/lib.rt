@@ -1,4 +1,6 @@
 // What the sink is told, over a script host.
+#![tactic(auto)]
+
 #[cfg(test)]
 mod tests {
     use binds::collector::{Span, SqliteBindValue};

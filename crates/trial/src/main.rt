@@ -1,4 +1,6 @@
 // Plays a sheet and calls: those on standard input, or those of each file that is named.
+#![tactic(auto)]
+
 mod play;
 
 use play::play;

@@ -1,4 +1,6 @@
 // The kinds of values that a statement binds and a row holds.
+#![tactic(auto)]
+
 ghost use Rattle.std.specs.Prelude.{◌≡◌, ◌<◌, ◌⊎◌, MatchOption};
 ghost use Rattle.values.specs.Types.{type_number};
 

@@ -4,15 +4,15 @@ use Rattle.figures.proofs.any_piece.Goals as goal
 
 pub returns-then-s-from : goal.returns-then-s-from
 returns-then-s-from c = λ bs rest low high e.
-    let f = piece-seen c.args.s.now bs rest 18446744073709551615 c.in-ok-n.n c.in-ok-n.from (omega arith) c.in-ok-n.ensures high e in
+    let f = piece-seen c.args.s.now bs rest 18446744073709551615 c.in_ok-n.n c.in_ok-n.from (omega arith) c.in_ok-n.ensures high e in
     omega arith
 
 pub returns-then-s-from-ne10 : goal.returns-then-s-from-ne10
 returns-then-s-from-ne10 c = λ bs rest low high e.
-    let f = piece-seen c.args.s.now bs rest 18446744073709551615 c.in-ok-n.n c.in-ok-n.from (omega arith) c.in-ok-n.ensures high e in
+    let f = piece-seen c.args.s.now bs rest 18446744073709551615 c.in_ok-n.n c.in_ok-n.from (omega arith) c.in_ok-n.ensures high e in
     omega arith
 
 pub returns : goal.returns
 returns c =
-    let w = c.in-ok-n.ensures.within in
-    pieced c.args.s.now 0 18446744073709551615 c.in-ok-n.n c.in-ok-n.from c.in-ok-n.ensures (omega arith) (omega arith) (omega arith)
+    let w = c.in_ok-n.ensures.within in
+    pieced c.args.s.now 0 18446744073709551615 c.in_ok-n.n c.in_ok-n.from c.in_ok-n.ensures (omega arith) (omega arith) (omega arith)

@@ -5,9 +5,9 @@ use Rattle.figures.proofs.figure.Goals as goal
 
 pub returns-then-n-most : goal.returns-then-n-most
 returns-then-n-most c = λ m rest h e.
-    let n = c.in-ok-n.n in
-    let k = c.in-ok-n.k in
-    let f = c.in-ok-n.ensures in
+    let n = c.in_ok-n.n in
+    let k = c.in_ok-n.k in
+    let f = c.in_ok-n.ensures in
     let small = f.small in
     let stop = stop_byte c.args.stop in
     let low = stop-low c.args.stop in

@@ -5,11 +5,11 @@ use Rattle.figures.specs.Figures.{stop_byte, Figured, NoFigure}
 use Rattle.figures.proofs.Steps.{figure-free, minus-seen, minus-numbered, stop-low}
 use Rattle.figures.proofs.number.Goals as goal
 
-pub returns-in-default : goal.returns-in-default
-returns-in-default c = λ z rest h e.
+pub returns-in_default : goal.returns-in_default
+returns-in_default c = λ z rest h e.
     let stop = stop_byte c.args.stop in
     let f = minus-seen c.args.s.now rest stop z h (omega arith) e in
-    let n : NoFigure stop (2 ^ 63) (drop 1 c.args.s.now) = rw (take_rest c.args.s.now 1) at c.in-default.ensures in
+    let n : NoFigure stop (2 ^ 63) (drop 1 c.args.s.now) = rw (take_rest c.args.s.now 1) at c.in_default.ensures in
     n f.0 rest f.2 f.3
 
 pub returns-then-m-eq0 : goal.returns-then-m-eq0

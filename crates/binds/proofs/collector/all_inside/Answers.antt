@@ -6,15 +6,15 @@ use Rattle.binds.specs.declared.collector.SqliteBindValue.TheVariants.{Null}
 use Rattle.binds.specs.Pairs.{all_inside, all_fit}
 use Rattle.binds.proofs.collector.all_inside.Goals as goal
 
-pub returns-then-not-is-inside : goal.returns-then-not-is-inside
+pub returns-then-not-is_inside : goal.returns-then-not-is_inside
 unfolding all_fit
-returns-then-not-is-inside c =
-    let e = at_drop_more (all_inside c.args.text c.args.given) c.args.pairs.now c.loop-value.value-index (Binary, Null) (omega arith) in grind (arith, nat_tests, c.if-not-is-inside.ensures)
+returns-then-not-is_inside c =
+    let e = at_drop_more (all_inside c.args.text c.args.given) c.args.pairs.now c.loop-value.value-index (Binary, Null) (omega arith) in grind (arith, nat_tests, c.if-not-is_inside.ensures)
 
 pub loop-value-preserved : goal.loop-value-preserved
 unfolding all_fit
 loop-value-preserved c =
-    let e = at_drop_more (all_inside c.args.text c.args.given) c.args.pairs.now c.loop-value.value-index (Binary, Null) (omega arith) in grind (arith, nat_tests, c.if-not-is-inside.ensures)
+    let e = at_drop_more (all_inside c.args.text c.args.given) c.args.pairs.now c.loop-value.value-index (Binary, Null) (omega arith) in grind (arith, nat_tests, c.if-not-is_inside.ensures)
 
 pub returns : goal.returns
 unfolding all_fit

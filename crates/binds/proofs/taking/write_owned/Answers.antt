@@ -5,16 +5,16 @@ use Rattle.binds.specs.Pairs.{owned_span, span_fits, span_length, owned_bytes}
 use Rattle.binds.proofs.Collect.{fit-head, bytes-head, room-turn, room-end}
 use Rattle.binds.proofs.taking.write_owned.Goals as goal
 
-pub write-one-requires : goal.write-one-requires
-write-one-requires c =
+pub write_one-requires : goal.write_one-requires
+write_one-requires c =
     let f = fit-head (length c.args.given.now) owned_span c.args.pairs.now c.loop-value.value-index (Binary, Null) (omega arith) c.loop-value.invariant.3 in
     let b = bytes-head c.args.pairs.now c.loop-value.value-index (Binary, Null) (omega arith) in
     let o = c.owned.ensures in
     let l = ap span_length o in
     record { inside = ap (span_fits (length c.args.given.now)) o ∙ f.0; fits = omega (arith, c.loop-value.invariant.2) }
 
-pub overflow-add-at : goal.overflow-add-at
-overflow-add-at c =
+pub overflow_add-at : goal.overflow_add-at
+overflow_add-at c =
     let b = bytes-head c.args.pairs.now c.loop-value.value-index (Binary, Null) (omega arith) in
     omega (arith, c.loop-value.invariant.2)
 
@@ -23,7 +23,7 @@ loop-value-preserved c =
     let ps = c.args.pairs.now in
     let f = fit-head (length c.args.given.now) owned_span ps c.loop-value.value-index (Binary, Null) (omega arith) c.loop-value.invariant.3 in
     let b = bytes-head ps c.loop-value.value-index (Binary, Null) (omega arith) in
-    let x = room-turn ps c.args.given.now c.loop-value.room c.write-one.new.room c.args.room.now c.loop-value.value-index c.loop-value.at _ (Binary, Null) c.owned.result (omega arith) (omega (arith, c.loop-value.invariant.2)) (omega arith) f.0 c.loop-value.invariant.0 c.loop-value.invariant.1 c.owned.ensures c.room-bytes-at.ensures c.write-one.ensures in
+    let x = room-turn ps c.args.given.now c.loop-value.room c.write_one.new.room c.args.room.now c.loop-value.value-index c.loop-value.at _ (Binary, Null) c.owned.result (omega arith) (omega (arith, c.loop-value.invariant.2)) (omega arith) f.0 c.loop-value.invariant.0 c.loop-value.invariant.1 c.owned.ensures c.room_bytes-at.ensures c.write_one.ensures in
     (x.0, x.1, omega (arith, c.loop-value.invariant.2), f.1)
 
 pub returns : goal.returns

@@ -3,4 +3,4 @@ use Rattle.sheet.proofs.Parts.{double-other}
 use Rattle.calls.proofs.items.double_bits.Goals as goal
 
 pub returns-then-bits-gt-INFINITY : goal.returns-then-bits-gt-INFINITY
-returns-then-bits-gt-INFINITY c = double-other c.args.s.now c.in-ok-bits.bits c.in-ok-bits.k c.in-ok-bits.ensures (λ h. omega (arith, h))
+returns-then-bits-gt-INFINITY c = double-other c.args.s.now c.in_ok-bits.bits c.in_ok-bits.k c.in_ok-bits.ensures (λ h. omega (arith, h))

@@ -7,47 +7,47 @@ use Rattle.calls.specs.Items.{behind_type, AskedBy, NoType, datum_of, ContentWit
 use Rattle.calls.proofs.Lines.{open-two, null-none, null-reads, tpe-none, behind-none, item-reads}
 use Rattle.calls.proofs.items.item_line.Goals as goal
 
-pub returns-in-err-tpe : goal.returns-in-err-tpe
-returns-in-err-tpe c =
+pub returns-in_err-tpe : goal.returns-in_err-tpe
+returns-in_err-tpe c =
     let s = c.args.s.now in
     let l : get_or s 0 0 ≡ 78 = omega arith in
-    let n : NoType 10 (drop 2 s) = rw (take_rest s 2) at c.in-err-tpe.ensures in
-    rw c.from-residual.ensures (null-none s (rw l at (open-two s (omega arith) (omega arith))) n)
+    let n : NoType 10 (drop 2 s) = rw (take_rest s 2) at c.in_err-tpe.ensures in
+    rw c.from_residual.ensures (null-none s (rw l at (open-two s (omega arith) (omega arith))) n)
 
 pub returns-then-letter-eq78 : goal.returns-then-letter-eq78
 returns-then-letter-eq78 c =
     let s = c.args.s.now in
     let l : get_or s 0 0 ≡ 78 = omega arith in
-    let k = c.in-ok-tpe.k in
-    let t = c.in-ok-tpe.tpe in
-    let f : Figured 10 7 (drop 2 s) (type_number t) k = rw (take_rest s 2) at c.in-ok-tpe.ensures in
+    let k = c.in_ok-tpe.k in
+    let t = c.in_ok-tpe.tpe in
+    let f : Figured 10 7 (drop 2 s) (type_number t) k = rw (take_rest s 2) at c.in_ok-tpe.ensures in
     (null-reads s t k (rw l at (open-two s (omega arith) (omega arith))) f, tt)
 
-pub returns-in-err-tpe-2 : goal.returns-in-err-tpe-2
-returns-in-err-tpe-2 c =
+pub returns-in_err-tpe-2 : goal.returns-in_err-tpe-2
+returns-in_err-tpe-2 c =
     let s = c.args.s.now in
-    let n : NoType 32 (drop 2 s) = rw (take_rest s 2) at c.in-err-tpe-2.ensures in
-    rw c.from-residual-in-err-tpe-2.ensures (tpe-none s (get_or s 0 0) (open-two s (omega arith) (omega arith)) (λ h. omega (arith, h)) n)
+    let n : NoType 32 (drop 2 s) = rw (take_rest s 2) at c.in_err-tpe-2.ensures in
+    rw c.from_residual-in_err-tpe-2.ensures (tpe-none s (get_or s 0 0) (open-two s (omega arith) (omega arith)) (λ h. omega (arith, h)) n)
 
-pub returns-in-err-content : goal.returns-in-err-content
-returns-in-err-content c =
+pub returns-in_err-content : goal.returns-in_err-content
+returns-in_err-content c =
     let s = c.args.s.now in
-    let j = c.in-ok-tpe-2.j in
-    let t = c.in-ok-tpe-2.tpe in
-    let f : Figured 32 7 (drop 2 s) (type_number t) j = rw (take_rest s 2) at c.in-ok-tpe-2.ensures in
-    let n : Lacks behind_type (AskedBy (get_or s 0 0)) (drop j (drop 2 s)) = rw (take_rest (drop 2 s) j) at (rw (take_rest s 2) at c.in-err-content.ensures) in
-    rw c.from-residual-in-err-content.ensures (behind-none s (get_or s 0 0) j t (open-two s (omega arith) (omega arith)) (λ h. omega (arith, h)) f n)
+    let j = c.in_ok-tpe-2.j in
+    let t = c.in_ok-tpe-2.tpe in
+    let f : Figured 32 7 (drop 2 s) (type_number t) j = rw (take_rest s 2) at c.in_ok-tpe-2.ensures in
+    let n : Lacks behind_type (AskedBy (get_or s 0 0)) (drop j (drop 2 s)) = rw (take_rest (drop 2 s) j) at (rw (take_rest s 2) at c.in_err-content.ensures) in
+    rw c.from_residual-in_err-content.ensures (behind-none s (get_or s 0 0) j t (open-two s (omega arith) (omega arith)) (λ h. omega (arith, h)) f n)
 
 pub returns : goal.returns
 returns c =
     let s = c.args.s.now in
-    let j = c.in-ok-tpe-2.j in
-    let t = c.in-ok-tpe-2.tpe in
-    let k = c.in-ok-content.k in
-    let content = c.in-ok-content.content in
+    let j = c.in_ok-tpe-2.j in
+    let t = c.in_ok-tpe-2.tpe in
+    let k = c.in_ok-content.k in
+    let content = c.in_ok-content.content in
     let d = drop j (drop 2 s) in
-    let f : Figured 32 7 (drop 2 s) (type_number t) j = rw (take_rest s 2) at c.in-ok-tpe-2.ensures in
-    let r : Reads behind_type (AskedBy (get_or s 0 0)) d (datum_of d content) k × ContentWithin (length d) content = rw (take_rest (drop 2 s) j) at (rw (take_rest s 2) at c.in-ok-content.ensures) in
+    let f : Figured 32 7 (drop 2 s) (type_number t) j = rw (take_rest s 2) at c.in_ok-tpe-2.ensures in
+    let r : Reads behind_type (AskedBy (get_or s 0 0)) d (datum_of d content) k × ContentWithin (length d) content = rw (take_rest (drop 2 s) j) at (rw (take_rest s 2) at c.in_ok-content.ensures) in
     let a : 2 + j ≡ j + 2 = omega arith in
     let dd : d ≡ drop (j + 2) s = drop-drop j 2 s ∙ ap (λ n. drop n s) a in
     let is : datum_of d content ≡ datum_of s c.moved.result = ap (λ l. datum_of l content) dd ∙ sym (c.moved.ensures.datum s) in

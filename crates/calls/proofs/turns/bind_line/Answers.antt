@@ -5,25 +5,25 @@ use Rattle.calls.proofs.Lines.{open-two}
 use Rattle.calls.proofs.Calling.{bind-first, bind-second, bind-reads}
 use Rattle.calls.proofs.turns.bind_line.Goals as goal
 
-pub returns-in-err-query : goal.returns-in-err-query
-returns-in-err-query c =
+pub returns-in_err-query : goal.returns-in_err-query
+returns-in_err-query c =
     let s = c.args.s.now in
-    let n : NoFigure 32 4294967295 (drop 2 s) = rw (take_rest s 2) at c.in-err-query.ensures in
-    rw c.from-residual.ensures (bind-first s n)
+    let n : NoFigure 32 4294967295 (drop 2 s) = rw (take_rest s 2) at c.in_err-query.ensures in
+    rw c.from_residual.ensures (bind-first s n)
 
-pub returns-in-err-count : goal.returns-in-err-count
-returns-in-err-count c =
+pub returns-in_err-count : goal.returns-in_err-count
+returns-in_err-count c =
     let s = c.args.s.now in
-    let j = c.in-ok-query.j in
-    let f : Figured 32 4294967295 (drop 2 s) c.in-ok-query.query j = rw (take_rest s 2) at c.in-ok-query.ensures in
-    let n : NoFigure 10 4294967295 (drop (2 + j) s) = rw (take_rest s (2 + j)) at c.in-err-count.ensures in
-    rw c.from-residual-in-err-count.ensures (bind-second s c.in-ok-query.query j f n)
+    let j = c.in_ok-query.j in
+    let f : Figured 32 4294967295 (drop 2 s) c.in_ok-query.query j = rw (take_rest s 2) at c.in_ok-query.ensures in
+    let n : NoFigure 10 4294967295 (drop (2 + j) s) = rw (take_rest s (2 + j)) at c.in_err-count.ensures in
+    rw c.from_residual-in_err-count.ensures (bind-second s c.in_ok-query.query j f n)
 
 pub returns : goal.returns
 returns c =
     let s = c.args.s.now in
-    let j = c.in-ok-query.j in
+    let j = c.in_ok-query.j in
     let l : get_or s 0 0 ≡ 98 = omega arith in
-    let f : Figured 32 4294967295 (drop 2 s) c.in-ok-query.query j = rw (take_rest s 2) at c.in-ok-query.ensures in
-    let g : Figured 10 4294967295 (drop (2 + j) s) c.in-ok-count.count c.in-ok-count.k = rw (take_rest s (2 + j)) at c.in-ok-count.ensures in
-    bind-reads s c.in-ok-query.query c.in-ok-count.count j c.in-ok-count.k (rw l at (open-two s (omega arith) (omega arith))) f g
+    let f : Figured 32 4294967295 (drop 2 s) c.in_ok-query.query j = rw (take_rest s 2) at c.in_ok-query.ensures in
+    let g : Figured 10 4294967295 (drop (2 + j) s) c.in_ok-count.count c.in_ok-count.k = rw (take_rest s (2 + j)) at c.in_ok-count.ensures in
+    bind-reads s c.in_ok-query.query c.in_ok-count.count j c.in_ok-count.k (rw l at (open-two s (omega arith) (omega arith))) f g

@@ -11,13 +11,13 @@ loop-letter-preserved c =
     let w = l.invariant in
     let s = c.new-reader.result.bytes.now in
     let read = c.in-Ok.read in
-    let after = c.next-turn.new.self in
+    let after = c.next_turn.new.self in
     let x = c.in-Ok.ensures in
-    let a = c.in-ok-push.ensures.len in
-    let b = c.in-ok-push-2.ensures.len in
+    let a = c.in_ok-push.ensures.len in
+    let b = c.in_ok-push-2.ensures.len in
     let e = w.0 in
     let turn : Turn = record { call = read.call; text = read.text; given = read.given; room = l.lent } in
-    let y = reading-more (Some (vec_items c.args.room)) s l.reader.bytes.now l.reader.place (vec_items l.letters) (vec_items l.turns) l.lent c.in-Some.letter after.place read turn after.bytes.now (vec_items c.push.new.self) (vec_items c.push-in-Ok.new.self) w.2 x.read c.in-Some.ensures.1 refl refl refl refl x.same c.in-ok-push.ensures.items c.in-ok-push-2.ensures.items in
+    let y = reading-more (Some (vec_items c.args.room)) s l.reader.bytes.now l.reader.place (vec_items l.letters) (vec_items l.turns) l.lent c.in-Some.letter after.place read turn after.bytes.now (vec_items c.push.new.self) (vec_items c.push-in-Ok.new.self) w.2 x.read c.in-Some.ensures.1 refl refl refl refl x.same c.in_ok-push.ensures.items c.in_ok-push-2.ensures.items in
     (omega arith, x.same ∙ w.1, y)
 
 pub returns-in-Err-Malformed : goal.returns-in-Err-Malformed
@@ -35,5 +35,5 @@ returns c =
     let l = c.loop-letter in
     let w = l.invariant in
     let s = c.new-reader.result.bytes.now in
-    let x = reading-whole (vec_items c.args.room) s l.reader.bytes.now l.reader.place (vec_items l.letters) (vec_items l.turns) l.lent w.2 c.in-default.ensures in
+    let x = reading-whole (vec_items c.args.room) s l.reader.bytes.now l.reader.place (vec_items l.letters) (vec_items l.turns) l.lent w.2 c.in_default.ensures in
     record { count = w.0; read = subst (λ z. CallsRead z (vec_items c.args.room) (vec_items l.letters) (vec_items l.turns) false) c.new-reader.ensures.bytes x }

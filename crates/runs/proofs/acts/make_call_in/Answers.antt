@@ -8,10 +8,10 @@ pub returns : goal.returns
 returns g c =
     let s = state_of g.X.Host.meaning c.args.statement.now in
     let a = asked c.args.call.now in
-    let v = c.as-mut-slice.ensures.value in
-    let l : length c.make-call.new.room ≡ c.args.room.now.len = omega (arith, c.as-mut-slice.ensures.len, c.make-call.auto.room) in
+    let v = c.as_mut_slice.ensures.value in
+    let l : length c.make_call.new.room ≡ c.args.room.now.len = omega (arith, c.as_mut_slice.ensures.len, c.make_call.auto.room) in
     record {
-      answer = c.make-call.ensures.answer ∙ ap (λ z. says s a (record { text = c.args.text.now; given = c.args.given.now; room = z })) v;
-      after = c.make-call.ensures.after ∙ ap (λ z. goes s a (record { text = c.args.text.now; given = c.args.given.now; room = z })) v;
-      room = take_at c.make-call.new.room (drop (length c.make-call.new.room) c.args.room.now.items) c.args.room.now.len l ∙ (c.make-call.ensures.room ∙ ap (λ z. leaves s a (record { text = c.args.text.now; given = c.args.given.now; room = z })) v);
+      answer = c.make_call.ensures.answer ∙ ap (λ z. says s a (record { text = c.args.text.now; given = c.args.given.now; room = z })) v;
+      after = c.make_call.ensures.after ∙ ap (λ z. goes s a (record { text = c.args.text.now; given = c.args.given.now; room = z })) v;
+      room = take_at c.make_call.new.room (drop (length c.make_call.new.room) c.args.room.now.items) c.args.room.now.len l ∙ (c.make_call.ensures.room ∙ ap (λ z. leaves s a (record { text = c.args.text.now; given = c.args.given.now; room = z })) v);
     }

@@ -9,9 +9,9 @@ returns-in-Kept g c =
     let m = g.X.Host.meaning in
     let t = c.args.turn in
     let b = c.args.buffers in
-    let q = c.make-call-in-answer in
-    let k = kept_same q.result t.text (vec_items b.text) _ c.in-Kept.is c.as-slice.ensures.value in
-    let x = turn-parts (record { state = state_of m c.args.statement.now; desk = desk_of b }) t (state_of m q.new.statement) q.result _ _ (vec_items c.lend-given.result) (vec_items c.lend-room.result) (vec_items q.new.room) (vec_items b.text) k.0 c.lend-given.ensures c.as-slice-in-Kept.ensures.value c.lend-room.ensures q.ensures.answer q.ensures.after q.ensures.room k.1 in
+    let q = c.make_call_in-answer in
+    let k = kept_same q.result t.text (vec_items b.text) _ c.in-Kept.is c.as_slice.ensures.value in
+    let x = turn-parts (record { state = state_of m c.args.statement.now; desk = desk_of b }) t (state_of m q.new.statement) q.result _ _ (vec_items c.lend-given.result) (vec_items c.lend-room.result) (vec_items q.new.room) (vec_items b.text) k.0 c.lend-given.ensures c.as_slice-in-Kept.ensures.value c.lend-room.ensures q.ensures.answer q.ensures.after q.ensures.room k.1 in
     record { answer = x.0; after = x.1 }
 
 pub returns : goal.returns
@@ -19,7 +19,7 @@ returns g c =
     let m = g.X.Host.meaning in
     let t = c.args.turn in
     let b = c.args.buffers in
-    let q = c.make-call-in-answer-in-Fresh in
-    let f = fresh-same t.text c.in-Fresh.fresh (vec_items b.text) _ c.in-Fresh.is c.as-slice-in-Fresh.ensures.value in
-    let x = turn-parts (record { state = state_of m c.args.statement.now; desk = desk_of b }) t (state_of m q.new.statement) q.result _ _ (vec_items c.lend-given.result) (vec_items c.lend-room.result) (vec_items q.new.room) (vec_items c.keep-text-text.result) f c.lend-given.ensures c.as-slice-in-Fresh-2.ensures.value c.lend-room.ensures q.ensures.answer q.ensures.after q.ensures.room (c.keep-text-text.ensures ∙ ap (λ z. kept_text q.result z (vec_items b.text)) (sym c.as-slice-in-Fresh.ensures.value)) in
+    let q = c.make_call_in-answer-in-Fresh in
+    let f = fresh-same t.text c.in-Fresh.fresh (vec_items b.text) _ c.in-Fresh.is c.as_slice-in-Fresh.ensures.value in
+    let x = turn-parts (record { state = state_of m c.args.statement.now; desk = desk_of b }) t (state_of m q.new.statement) q.result _ _ (vec_items c.lend-given.result) (vec_items c.lend-room.result) (vec_items q.new.room) (vec_items c.keep_text-text.result) f c.lend-given.ensures c.as_slice-in-Fresh-2.ensures.value c.lend-room.ensures q.ensures.answer q.ensures.after q.ensures.room (c.keep_text-text.ensures ∙ ap (λ z. kept_text q.result z (vec_items b.text)) (sym c.as_slice-in-Fresh.ensures.value)) in
     record { answer = x.0; after = x.1 }

@@ -13,18 +13,18 @@ loop-turn-preserved g c =
     let more : into_iter_items l.turn-iterator ≡ c.in-Some.turn ∷ into_iter_items c.next.new.self = search rules in
     let p = c.perform-answer in
     let few = fewer c.in-Some.turn _ _ more in (
-      answers-turn _ _ c.in-Some.turn _ _ _ _ _ p.result.0 more c.push-reserved.ensures.items p.ensures.answer p.ensures.after l.invariant.0,
+      answers-turn _ _ c.in-Some.turn _ _ _ _ _ p.result.0 more c.push_reserved.ensures.items p.ensures.answer p.ensures.after l.invariant.0,
       after_turn _ _ c.in-Some.turn _ _ _ more p.ensures.after l.invariant.1,
-      omega (arith, l.invariant.2, c.push-reserved.ensures.len, c.push-reserved.ensures.capacity),
+      omega (arith, l.invariant.2, c.push_reserved.ensures.len, c.push_reserved.ensures.capacity),
     )
 
 pub loop-turn-init : goal.loop-turn-init
 loop-turn-init g c =
-    let n = c.in-ok-answers.ensures in
-    (ap (λ z. z ++ answers_to (record { state = state_of g.X.Host.meaning c.new-statement.result; desk = desk_of c.new-buffers.result }) (into_iter_items c.into-iter-turn-iterator.result)) n.items, refl, let b = ap length c.into-iter-turn-iterator.ensures.into-iter-gives.0 in let k = c.args.turns.ok.0 in omega (arith, n.len, n.capacity, c.len.ensures))
+    let n = c.in_ok-answers.ensures in
+    (ap (λ z. z ++ answers_to (record { state = state_of g.X.Host.meaning c.new-statement.result; desk = desk_of c.new-buffers.result }) (into_iter_items c.into_iter-turn-iterator.result)) n.items, refl, let b = ap length c.into_iter-turn-iterator.ensures.into_iter-gives.0 in let k = c.args.turns.ok.0 in omega (arith, n.len, n.capacity, c.len.ensures))
 
-pub push-reserved-requires : goal.push-reserved-requires
-push-reserved-requires g c =
+pub push_reserved-requires : goal.push_reserved-requires
+push_reserved-requires g c =
     let more : into_iter_items c.loop-turn.turn-iterator ≡ c.in-Some.turn ∷ into_iter_items c.next.new.self = search rules in
     let few = fewer c.in-Some.turn _ _ more in
     omega (arith, c.loop-turn.invariant.2)
@@ -37,7 +37,7 @@ returns g c =
     let ok = c.loop-turn.turn-iterator.rest.ok.0 in
     let none : length (into_iter_items c.loop-turn.turn-iterator) ≡ 0 = omega arith in
     let a = starts (m c.args.host) (state_of m c.new-statement.result) (desk_of c.new-buffers.result) c.new-statement.ensures c.new-buffers.ensures in
-    let b = c.into-iter-turn-iterator.ensures.into-iter-gives.0 in
+    let b = c.into_iter-turn-iterator.ensures.into_iter-gives.0 in
     let x : Answers (m c.args.host) (vec_items c.args.turns) (vec_items l.answers) (state_of m l.statement) (desk_of l.buffers) =
     record { told = answers-done _ _ _ _ none l.invariant.0 ∙ ap₂ answers_to a b; ends = after-done _ _ _ none l.invariant.1 ∙ ap₂ after_all a b } in
     let k = kept_run (m c.args.host) (vec_items c.args.turns) (vec_items l.answers) (state_of m l.statement) (desk_of l.buffers) c.laws.ensures x in

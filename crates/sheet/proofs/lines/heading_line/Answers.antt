@@ -4,30 +4,30 @@ use Rattle.figures.specs.Figures.{Figured, NoFigure}
 use Rattle.sheet.proofs.Parts.{heading-none, heading-second, heading-third, heading-reads}
 use Rattle.sheet.proofs.lines.heading_line.Goals as goal
 
-pub returns-in-err-columns : goal.returns-in-err-columns
-returns-in-err-columns c = rw c.from-residual.ensures (heading-none c.args.s.now c.in-err-columns.ensures)
+pub returns-in_err-columns : goal.returns-in_err-columns
+returns-in_err-columns c = rw c.from_residual.ensures (heading-none c.args.s.now c.in_err-columns.ensures)
 
-pub returns-in-err-parameters : goal.returns-in-err-parameters
-returns-in-err-parameters c =
+pub returns-in_err-parameters : goal.returns-in_err-parameters
+returns-in_err-parameters c =
     let s = c.args.s.now in
-    let i = c.in-ok-columns.i in
-    let n : NoFigure 32 32 (drop i s) = rw (take_rest s i) at c.in-err-parameters.ensures in
-    rw c.from-residual-in-err-parameters.ensures (heading-second s c.in-ok-columns.columns i c.in-ok-columns.ensures n)
+    let i = c.in_ok-columns.i in
+    let n : NoFigure 32 32 (drop i s) = rw (take_rest s i) at c.in_err-parameters.ensures in
+    rw c.from_residual-in_err-parameters.ensures (heading-second s c.in_ok-columns.columns i c.in_ok-columns.ensures n)
 
-pub returns-in-err-copy-limit : goal.returns-in-err-copy-limit
-returns-in-err-copy-limit c =
+pub returns-in_err-copy_limit : goal.returns-in_err-copy_limit
+returns-in_err-copy_limit c =
     let s = c.args.s.now in
-    let i = c.in-ok-columns.i in
-    let j = c.in-ok-parameters.j in
-    let f : Figured 32 32 (drop i s) c.in-ok-parameters.parameters j = rw (take_rest s i) at c.in-ok-parameters.ensures in
-    let n : NoFigure 10 256 (drop (i + j) s) = rw (take_rest s (i + j)) at c.in-err-copy-limit.ensures in
-    rw c.from-residual-in-err-copy-limit.ensures (heading-third s c.in-ok-columns.columns i c.in-ok-parameters.parameters j c.in-ok-columns.ensures f n)
+    let i = c.in_ok-columns.i in
+    let j = c.in_ok-parameters.j in
+    let f : Figured 32 32 (drop i s) c.in_ok-parameters.parameters j = rw (take_rest s i) at c.in_ok-parameters.ensures in
+    let n : NoFigure 10 256 (drop (i + j) s) = rw (take_rest s (i + j)) at c.in_err-copy_limit.ensures in
+    rw c.from_residual-in_err-copy_limit.ensures (heading-third s c.in_ok-columns.columns i c.in_ok-parameters.parameters j c.in_ok-columns.ensures f n)
 
 pub returns : goal.returns
 returns c =
     let s = c.args.s.now in
-    let i = c.in-ok-columns.i in
-    let j = c.in-ok-parameters.j in
-    let f : Figured 32 32 (drop i s) c.in-ok-parameters.parameters j = rw (take_rest s i) at c.in-ok-parameters.ensures in
-    let g : Figured 10 256 (drop (i + j) s) c.in-ok-copy-limit.copy-limit c.in-ok-copy-limit.k = rw (take_rest s (i + j)) at c.in-ok-copy-limit.ensures in
-    heading-reads s (record { columns = c.in-ok-columns.columns; parameters = c.in-ok-parameters.parameters; copy_limit = c.in-ok-copy-limit.copy-limit }) i j c.in-ok-copy-limit.k c.in-ok-columns.ensures f g
+    let i = c.in_ok-columns.i in
+    let j = c.in_ok-parameters.j in
+    let f : Figured 32 32 (drop i s) c.in_ok-parameters.parameters j = rw (take_rest s i) at c.in_ok-parameters.ensures in
+    let g : Figured 10 256 (drop (i + j) s) c.in_ok-copy_limit.copy_limit c.in_ok-copy_limit.k = rw (take_rest s (i + j)) at c.in_ok-copy_limit.ensures in
+    heading-reads s (record { columns = c.in_ok-columns.columns; parameters = c.in_ok-parameters.parameters; copy_limit = c.in_ok-copy_limit.copy_limit }) i j c.in_ok-copy_limit.k c.in_ok-columns.ensures f g

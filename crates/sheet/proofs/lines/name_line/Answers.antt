@@ -5,25 +5,25 @@ use Rattle.figures.specs.Figures.{Pieced, NoPiece}
 use Rattle.sheet.proofs.Parts.{name-none, name-other, name-reads}
 use Rattle.sheet.proofs.lines.name_line.Goals as goal
 
-pub returns-in-err-part : goal.returns-in-err-part
-returns-in-err-part c =
+pub returns-in_err-part : goal.returns-in_err-part
+returns-in_err-part c =
     let s = c.args.s.now in
-    let n : NoPiece 1 32 (drop 2 s) = rw (take_rest s 2) at c.in-err-part.ensures in
-    rw c.from-residual.ensures (name-none s n)
+    let n : NoPiece 1 32 (drop 2 s) = rw (take_rest s 2) at c.in_err-part.ensures in
+    rw c.from_residual.ensures (name-none s n)
 
 pub returns-then-not-graphic : goal.returns-then-not-graphic
 returns-then-not-graphic c =
     let s = c.args.s.now in
-    let part = c.in-ok-part.part in
-    let p : Pieced 1 32 (drop 2 s) part.from part.len = rw (take_rest s 2) at c.in-ok-part.ensures in
+    let part = c.in_ok-part.part in
+    let p : Pieced 1 32 (drop 2 s) part.from part.len = rw (take_rest s 2) at c.in_ok-part.ensures in
     let e : part.from + 2 + part.len - (part.from + 2) ≡ part.len = omega arith in
     name-other s part.from part.len p (λ h. false≢true (c.if-not-graphic.ensures.1 (rw e h)))
 
 pub returns : goal.returns
 returns c =
     let s = c.args.s.now in
-    let part = c.in-ok-part.part in
-    let p : Pieced 1 32 (drop 2 s) part.from part.len = rw (take_rest s 2) at c.in-ok-part.ensures in
+    let part = c.in_ok-part.part in
+    let p : Pieced 1 32 (drop 2 s) part.from part.len = rw (take_rest s 2) at c.in_ok-part.ensures in
     let o = c.if-not-opens.ensures.0 refl in
     let e : part.from + 2 + part.len - (part.from + 2) ≡ part.len = omega arith in
     let l = length-drop 2 s in

@@ -4,27 +4,27 @@ use Rattle.sheet.specs.Lines.{Moved, Stuck, Block, Breaks, part_of, PartWithin}
 use Rattle.sheet.proofs.Standing.{both, names-within, no-names-break, next-name, no-next-name}
 use Rattle.sheet.proofs.play.name_at.Goals as goal
 
-pub returns-in-default : goal.returns-in-default
-returns-in-default c = λ ns rest h g e.
+pub returns-in_default : goal.returns-in_default
+returns-in_default c = λ ns rest h g e.
     let s = c.args.bytes.now in
     let p = c.args.place in
     let r0 = c.at-reader.result in
     let i = c.args.i in
-    let bad = c.in-default.field-0.line in
+    let bad = c.in_default.field-0.line in
     let w = names-within ns rest s p e (omega arith) in
-    let b = both (λ (z : List ℕ) (q : ℕ). Breaks name_line GoodName z q r0.line i bad) c.at-reader.ensures.bytes (c.at-reader.ensures.place w) c.in-default.ensures.read in
+    let b = both (λ (z : List ℕ) (q : ℕ). Breaks name_line GoodName z q r0.line i bad) c.at-reader.ensures.bytes (c.at-reader.ensures.place w) c.in_default.ensures.read in
     no-names-break s p r0.line i bad ns rest (omega arith) g e b
 
-pub returns-in-default-name : goal.returns-in-default-name
-returns-in-default-name c = λ ns rest h g e.
+pub returns-in_default-name : goal.returns-in_default-name
+returns-in_default-name c = λ ns rest h g e.
     let s = c.args.bytes.now in
     let p = c.args.place in
     let r1 = c.names.new.self in
     let i = c.args.i in
     let w = names-within ns rest s p e (omega arith) in
     let b = both (λ (z : List ℕ) (q : ℕ). Block name_line GoodName z q i r1.place) c.at-reader.ensures.bytes (c.at-reader.ensures.place w) c.in-Ok.ensures.read.0 in
-    let bad = c.in-default-name.field-0.line in
-    let x = subst (λ (z : List ℕ). Stuck name_line GoodName z r1.place r1.line bad) (c.in-Ok.ensures.same ∙ c.at-reader.ensures.bytes) c.in-default-name.ensures.read in
+    let bad = c.in_default-name.field-0.line in
+    let x = subst (λ (z : List ℕ). Stuck name_line GoodName z r1.place r1.line bad) (c.in-Ok.ensures.same ∙ c.at-reader.ensures.bytes) c.in_default-name.ensures.read in
     no-next-name s p i r1.place r1.line bad ns rest h g e b x
 
 pub returns : goal.returns

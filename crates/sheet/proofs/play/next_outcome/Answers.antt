@@ -8,15 +8,15 @@ use Rattle.sheet.specs.declared.play.Played.TheVariants as played
 use Rattle.sheet.proofs.Standing.{both, at-within, play-none, plays-done, plays-failed, plays-end, plays-row, plays-short}
 use Rattle.sheet.proofs.play.next_outcome.Goals as goal
 
-pub returns-in-default : goal.returns-in-default
-returns-in-default c = λ os x.
+pub returns-in_default : goal.returns-in_default
+returns-in_default c = λ os x.
     let s = c.args.bytes.now in
     let p = c.args.place in
     let r0 = c.at-reader.result in
     let w = at-within s c.args.columns p os x in
     let h : p ≤ length s = omega arith in
-    let bad = c.in-default.field-0.line in
-    let f = both (λ (z : List ℕ) (i : ℕ). Stuck head_line (GoodHead false) z i r0.line bad) c.at-reader.ensures.bytes (c.at-reader.ensures.place h) c.in-default.ensures.read in
+    let bad = c.in_default.field-0.line in
+    let f = both (λ (z : List ℕ) (i : ℕ). Stuck head_line (GoodHead false) z i r0.line bad) c.at-reader.ensures.bytes (c.at-reader.ensures.place h) c.in_default.ensures.read in
     absurd (play-none s c.args.columns p r0.line bad os x f)
 
 pub returns-in-Done : goal.returns-in-Done

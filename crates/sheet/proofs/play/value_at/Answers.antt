@@ -4,19 +4,19 @@ use Rattle.sheet.specs.Lines.{Moved, Stuck, Block, Breaks, cell_of, CellWithin}
 use Rattle.sheet.proofs.Standing.{both, values-within, no-values-break, next-value, no-next-value}
 use Rattle.sheet.proofs.play.value_at.Goals as goal
 
-pub returns-in-default : goal.returns-in-default
-returns-in-default c = λ vs rest h g e.
+pub returns-in_default : goal.returns-in_default
+returns-in_default c = λ vs rest h g e.
     let s = c.args.bytes.now in
     let p = c.args.place in
     let i = c.args.i in
     let r0 = c.at-reader.result in
     let w = values-within vs rest s p e (omega arith) in
-    let bad = c.in-default.field-0.line in
-    let b = both (λ (z : List ℕ) (q : ℕ). Breaks value_line GoodValue z q r0.line i bad) c.at-reader.ensures.bytes (c.at-reader.ensures.place w) c.in-default.ensures.read in
+    let bad = c.in_default.field-0.line in
+    let b = both (λ (z : List ℕ) (q : ℕ). Breaks value_line GoodValue z q r0.line i bad) c.at-reader.ensures.bytes (c.at-reader.ensures.place w) c.in_default.ensures.read in
     no-values-break s p r0.line i bad vs rest (omega arith) g e b
 
-pub returns-in-default-value : goal.returns-in-default-value
-returns-in-default-value c = λ vs rest h g e.
+pub returns-in_default-value : goal.returns-in_default-value
+returns-in_default-value c = λ vs rest h g e.
     let s = c.args.bytes.now in
     let p = c.args.place in
     let i = c.args.i in
@@ -24,8 +24,8 @@ returns-in-default-value c = λ vs rest h g e.
     let r1 = c.row.new.self in
     let w = values-within vs rest s p e (omega arith) in
     let b = both (λ (z : List ℕ) (q : ℕ). Block value_line GoodValue z q i r1.place) c.at-reader.ensures.bytes (c.at-reader.ensures.place w) c.in-Ok.ensures.read.0 in
-    let bad = c.in-default-value.field-0.line in
-    let x = subst (λ (z : List ℕ). Stuck value_line GoodValue z r1.place r1.line bad) (c.in-Ok.ensures.same ∙ c.at-reader.ensures.bytes) c.in-default-value.ensures.read in
+    let bad = c.in_default-value.field-0.line in
+    let x = subst (λ (z : List ℕ). Stuck value_line GoodValue z r1.place r1.line bad) (c.in-Ok.ensures.same ∙ c.at-reader.ensures.bytes) c.in_default-value.ensures.read in
     no-next-value s p i r1.place r1.line bad vs rest h g e b x
 
 pub returns : goal.returns

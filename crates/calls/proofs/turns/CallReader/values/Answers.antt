@@ -9,16 +9,16 @@ use Rattle.calls.proofs.turns.CallReader.values.Goals as goal
 pub loop-init : goal.loop-init
 loop-init c = let r = c.args.self.now in walked_none r.bytes.now r.place (bundle_of c.new-values.result) r.within c.new-values.ensures
 
-pub returns-in-err-n : goal.returns-in-err-n
-returns-in-err-n c =
+pub returns-in_err-n : goal.returns-in_err-n
+returns-in_err-n c =
     let r = c.args.self.now in
     let q = c.loop.self in
     let b = bundle_of c.loop.values in
-    let fault = c.in-err-n.field-0.0 in
+    let fault = c.in_err-n.field-0.0 in
     let w = c.loop.invariant in
     let e = w.same in
     let h = w.ahead in
-    let x : Because (Lacks item_line (GoodNext b) (drop q.place q.bytes.now)) fault = rw (take_rest q.bytes.now q.place) at c.in-err-n.ensures in
+    let x : Because (Lacks item_line (GoodNext b) (drop q.place q.bytes.now)) fault = rw (take_rest q.bytes.now q.place) at c.in_err-n.ensures in
     let f : Because (NoLines r.bytes.now r.place c.args.count) fault = because fault (walked-stuck r.bytes.now r.place c.loop.counter q.bytes.now q.place c.args.count b w (omega arith)) x in
     search rules
 
@@ -27,9 +27,9 @@ loop-preserved c =
     let r = c.args.self.now in
     let q = c.loop.self in
     let b = bundle_of c.loop.values in
-    let after = bundle_of c.take-line.new.self in
-    let x : LineTaken b after (drop q.place q.bytes.now) c.in-ok-n.n = rw (take_rest q.bytes.now q.place) at c.in-ok-n.ensures in
-    walked_more r.bytes.now r.place c.loop.counter q.bytes.now q.place c.in-ok-n.n b after c.loop.invariant x
+    let after = bundle_of c.take_line.new.self in
+    let x : LineTaken b after (drop q.place q.bytes.now) c.in_ok-n.n = rw (take_rest q.bytes.now q.place) at c.in_ok-n.ensures in
+    walked_more r.bytes.now r.place c.loop.counter q.bytes.now q.place c.in_ok-n.n b after c.loop.invariant x
 
 pub returns : goal.returns
 returns c =

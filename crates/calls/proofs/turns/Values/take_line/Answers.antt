@@ -5,19 +5,19 @@ use Rattle.calls.specs.Binds.{GoodNext, Because, bundle_of}
 use Rattle.calls.proofs.Taking.{because, line-full, line_taken}
 use Rattle.calls.proofs.turns.Values.take_line.Goals as goal
 
-pub returns-in-err-value : goal.returns-in-err-value
-returns-in-err-value c =
+pub returns-in_err-value : goal.returns-in_err-value
+returns-in_err-value c =
     let b = bundle_of c.args.self.now in
     let s = c.args.s.now in
-    let f : Because (Lacks item_line (GoodNext b) s) c.in-err-value.field-0.0 = because c.in-err-value.field-0.0 (line-full b s (entry_of s c.in-Some.item) c.in-Some.n c.in-Some.ensures.0) c.in-err-value.ensures in
+    let f : Because (Lacks item_line (GoodNext b) s) c.in_err-value.field-0.0 = because c.in_err-value.field-0.0 (line-full b s (entry_of s c.in-Some.item) c.in-Some.n c.in-Some.ensures.0) c.in_err-value.ensures in
     search rules
 
-pub returns-in-err-push : goal.returns-in-err-push
-returns-in-err-push c = search rules
+pub returns-in_err-push : goal.returns-in_err-push
+returns-in_err-push c = search rules
 
 pub returns : goal.returns
 returns c =
     let b = bundle_of c.args.self.now in
     let s = c.args.s.now in
     let m = c.value.new.self in
-    line_taken b (record { pairs = vec_items c.push.new.self; text = vec_items m.text; given = vec_items m.given }) (bundle_of m) s (entry_of s c.in-Some.item) c.in-Some.n c.in-ok-value.value c.in-Some.ensures.0 c.in-ok-value.ensures (ap (λ ps. record { pairs = ps; text = vec_items m.text; given = vec_items m.given }) c.in-ok-push.ensures.items)
+    line_taken b (record { pairs = vec_items c.push.new.self; text = vec_items m.text; given = vec_items m.given }) (bundle_of m) s (entry_of s c.in-Some.item) c.in-Some.n c.in_ok-value.value c.in-Some.ensures.0 c.in_ok-value.ensures (ap (λ ps. record { pairs = ps; text = vec_items m.text; given = vec_items m.given }) c.in_ok-push.ensures.items)

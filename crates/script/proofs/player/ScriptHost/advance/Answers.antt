@@ -10,8 +10,8 @@ returns-in-End c =
     let here : Here s h.columns h.start h.place h.index = record { good = h.good; every = h.every; begins = h.begins; stands = h.stands } in
     starts-over s h.columns h.start h.place h.index here (c.in-End.ensures (drop h.index (sheet_at s).outcomes) (at_here s h.columns h.start h.place h.index here))
 
-pub overflow-add-result : goal.overflow-add-result
-overflow-add-result c =
+pub overflow_add-result : goal.overflow_add-result
+overflow_add-result c =
     let h = c.args.self.now in
     let s = h.bytes.now in
     let here : Here s h.columns h.start h.place h.index = record { good = h.good; every = h.every; begins = h.begins; stands = h.stands } in
@@ -26,8 +26,8 @@ returns-in-Row c =
     let here : Here s h.columns h.start h.place h.index = record { good = h.good; every = h.every; begins = h.begins; stands = h.stands } in
     (moves-row s h.columns h.start h.place h.index c.in-Row.values c.in-Row.next here (c.in-Row.ensures (drop h.index (sheet_at s).outcomes) (at_here s h.columns h.start h.place h.index here))).advanced
 
-pub overflow-add-result-in-Done : goal.overflow-add-result-in-Done
-overflow-add-result-in-Done c =
+pub overflow_add-result-in-Done : goal.overflow_add-result-in-Done
+overflow_add-result-in-Done c =
     let h = c.args.self.now in
     let s = h.bytes.now in
     let here : Here s h.columns h.start h.place h.index = record { good = h.good; every = h.every; begins = h.begins; stands = h.stands } in
@@ -42,8 +42,8 @@ returns-in-Done c =
     let here : Here s h.columns h.start h.place h.index = record { good = h.good; every = h.every; begins = h.begins; stands = h.stands } in
     (moves-done s h.columns h.start h.place h.index c.in-Done.next here (c.in-Done.ensures (drop h.index (sheet_at s).outcomes) (at_here s h.columns h.start h.place h.index here))).advanced
 
-pub overflow-add-result-in-Failed : goal.overflow-add-result-in-Failed
-overflow-add-result-in-Failed c =
+pub overflow_add-result-in-Failed : goal.overflow_add-result-in-Failed
+overflow_add-result-in-Failed c =
     let h = c.args.self.now in
     let s = h.bytes.now in
     let here : Here s h.columns h.start h.place h.index = record { good = h.good; every = h.every; begins = h.begins; stands = h.stands } in
@@ -58,8 +58,8 @@ returns-in-Failed c =
     let here : Here s h.columns h.start h.place h.index = record { good = h.good; every = h.every; begins = h.begins; stands = h.stands } in
     (moves-failed s h.columns h.start h.place h.index c.in-Failed.next c.in-Failed.code here (c.in-Failed.ensures (drop h.index (sheet_at s).outcomes) (at_here s h.columns h.start h.place h.index here))).advanced
 
-pub overflow-cast-result : goal.overflow-cast-result
-overflow-cast-result c =
+pub overflow_cast-result : goal.overflow_cast-result
+overflow_cast-result c =
     let h = c.args.self.now in
     let s = h.bytes.now in
     let here : Here s h.columns h.start h.place h.index = record { good = h.good; every = h.every; begins = h.begins; stands = h.stands } in

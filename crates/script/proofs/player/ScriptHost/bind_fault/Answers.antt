@@ -10,21 +10,21 @@ pub returns-then-self : goal.returns-then-self
 unfolding bind_fault
 returns-then-self c = search rules
 
-pub returns-then-not-has-slot : goal.returns-then-not-has-slot
-returns-then-not-has-slot c =
+pub returns-then-not-has_slot : goal.returns-then-not-has_slot
+returns-then-not-has_slot c =
     let h = c.args.self.now in
-    record { fault = fault-range (meaning_of h) c.args.index h.parameters c.args.slot c.if-self.false h.each (λ p. false≢true (c.if-not-has-slot.ensures.1 p)); bindable = tt }
+    record { fault = fault-range (meaning_of h) c.args.index h.parameters c.args.slot c.if-self.false h.each (λ p. false≢true (c.if-not-has_slot.ensures.1 p)); bindable = tt }
 
-pub returns-then-byte-count-self : goal.returns-then-byte-count-self
-returns-then-byte-count-self c =
+pub returns-then-byte_count-self : goal.returns-then-byte_count-self
+returns-then-byte_count-self c =
     let h = c.args.self.now in
-    let p = c.if-not-has-slot.ensures.0 refl in
-    let big : h.byte_limit < slot_length c.args.slot = subst (λ (z : ℕ). h.byte_limit < z) c.byte-count.ensures c.if-byte-count-self.true in
+    let p = c.if-not-has_slot.ensures.0 refl in
+    let big : h.byte_limit < slot_length c.args.slot = subst (λ (z : ℕ). h.byte_limit < z) c.byte_count.ensures c.if-byte_count-self.true in
     record { fault = fault-big (meaning_of h) c.args.index h.parameters c.args.slot c.if-self.false h.each p.0 p.1 big; bindable = p }
 
 pub returns : goal.returns
 returns c =
     let h = c.args.self.now in
-    let p = c.if-not-has-slot.ensures.0 refl in
-    let fits : slot_length c.args.slot ≤ h.byte_limit = subst (λ (z : ℕ). z ≤ h.byte_limit) c.byte-count.ensures c.if-byte-count-self.false in
+    let p = c.if-not-has_slot.ensures.0 refl in
+    let fits : slot_length c.args.slot ≤ h.byte_limit = subst (λ (z : ℕ). z ≤ h.byte_limit) c.byte_count.ensures c.if-byte_count-self.false in
     record { fault = fault-none (meaning_of h) c.args.index h.parameters c.args.slot c.if-self.false h.each p.0 p.1 fits; bindable = p }

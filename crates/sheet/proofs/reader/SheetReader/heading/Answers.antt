@@ -8,10 +8,10 @@ pass-requires c =
     let r = c.args.self.now in
     passes heading_line GoodHeading r.bytes.now c.rest.result.now r.place c.in-Some.heading c.in-Some.n c.rest.ensures r.within (heading-long c.in-Some.heading) c.in-Some.ensures
 
-pub returns-in-default : goal.returns-in-default
-returns-in-default c =
+pub returns-in_default : goal.returns-in_default
+returns-in_default c =
     let r = c.args.self.now in
-    record { read = stuck heading_line GoodHeading r.bytes.now c.rest.result.now r.place r.line c.bad.result.line c.rest.ensures c.in-default.ensures c.bad.ensures; same = refl }
+    record { read = stuck heading_line GoodHeading r.bytes.now c.rest.result.now r.place r.line c.bad.result.line c.rest.ensures c.in_default.ensures c.bad.ensures; same = refl }
 
 pub returns : goal.returns
 returns c =

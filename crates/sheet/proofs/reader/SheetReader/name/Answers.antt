@@ -4,8 +4,8 @@ use Rattle.sheet.specs.Lines.{Reads, part_of}
 use Rattle.sheet.proofs.Moves.{passes, moved, stuck, part_same, part_in}
 use Rattle.sheet.proofs.reader.SheetReader.name.Goals as goal
 
-pub part-on-name-requires : goal.part-on-name-requires
-part-on-name-requires c =
+pub part_on-name-requires : goal.part_on-name-requires
+part_on-name-requires c =
     let r = c.args.self.now in
     let l = ap length c.rest.ensures ∙ length-drop r.place r.bytes.now in
     let w = c.in-Some.ensures.1 in
@@ -18,10 +18,10 @@ pass-requires c =
     let t = c.rest.result.now in
     passes name_line GoodName r.bytes.now t r.place (part_of t c.in-Some.part) c.in-Some.n c.rest.ensures r.within (omega arith) c.in-Some.ensures.0
 
-pub returns-in-default : goal.returns-in-default
-returns-in-default c =
+pub returns-in_default : goal.returns-in_default
+returns-in_default c =
     let r = c.args.self.now in
-    record { read = stuck name_line GoodName r.bytes.now c.rest.result.now r.place r.line c.bad.result.line c.rest.ensures c.in-default.ensures c.bad.ensures; same = refl }
+    record { read = stuck name_line GoodName r.bytes.now c.rest.result.now r.place r.line c.bad.result.line c.rest.ensures c.in_default.ensures c.bad.ensures; same = refl }
 
 pub returns : goal.returns
 returns c =
@@ -29,8 +29,8 @@ returns c =
     let s = r.bytes.now in
     let t = c.rest.result.now in
     let a = c.in-Some.part in
-    let b = c.part-on-name.result in
-    let on = c.part-on-name.ensures in
+    let b = c.part_on-name.result in
+    let on = c.part_on-name.ensures in
     let e = part_same s t r.place a b c.rest.ensures on.0 on.1 in
     let m : Reads name_line GoodName t (part_of s b) c.in-Some.n = rw e at c.in-Some.ensures.0 in
     record { read = (moved name_line GoodName s t r.place r.line (part_of s b) c.in-Some.n c.pass.new.self.place c.pass.new.self.line c.rest.ensures r.within m c.pass.ensures.place c.pass.ensures.line, part_in s t r.place a b c.rest.ensures r.within on.0 on.1 c.in-Some.ensures.1); same = c.pass.ensures.same }

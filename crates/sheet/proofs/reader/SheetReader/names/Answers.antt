@@ -7,12 +7,12 @@ use Rattle.sheet.proofs.reader.SheetReader.names.Goals as goal
 pub loop-init : goal.loop-init
 loop-init c = let r = c.args.self.now in walked_none name_line GoodName r.bytes.now r.place r.line r.within
 
-pub returns-in-err-name : goal.returns-in-err-name
-returns-in-err-name c =
+pub returns-in_err-name : goal.returns-in_err-name
+returns-in_err-name c =
     let r = c.args.self.now in
     let q = c.loop.self in
-    let x = c.in-err-name.ensures in
-    let b = walked-breaks name_line GoodName r.bytes.now r.place r.line c.loop.counter q.bytes.now q.place q.line c.args.columns c.in-err-name.field-0.0.line c.loop.invariant (omega arith) x.read in
+    let x = c.in_err-name.ensures in
+    let b = walked-breaks name_line GoodName r.bytes.now r.place r.line c.loop.counter q.bytes.now q.place q.line c.args.columns c.in_err-name.field-0.0.line c.loop.invariant (omega arith) x.read in
     let e = x.same ∙ c.loop.invariant.same in
     search rules
 
@@ -20,7 +20,7 @@ pub loop-preserved : goal.loop-preserved
 loop-preserved c =
     let r = c.args.self.now in
     let q = c.loop.self in
-    let x = c.in-ok-name.ensures in
+    let x = c.in_ok-name.ensures in
     let t = c.name.new.self in
     walked_more name_line GoodName r.bytes.now r.place r.line c.loop.counter q.bytes.now q.place q.line _ t.bytes.now t.place t.line c.loop.invariant x.read.0 x.same
 

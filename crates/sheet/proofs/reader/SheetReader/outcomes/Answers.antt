@@ -8,12 +8,12 @@ use Rattle.sheet.proofs.reader.SheetReader.outcomes.Goals as goal
 pub loop-head-init : goal.loop-head-init
 loop-head-init c = let r = c.args.self.now in going-none r.bytes.now c.args.columns c.args.table r.place r.line r.within
 
-pub returns-in-err-head : goal.returns-in-err-head
-returns-in-err-head c =
+pub returns-in_err-head : goal.returns-in_err-head
+returns-in_err-head c =
     let r = c.args.self.now in
     let q = c.loop-head.self in
-    let x = c.in-err-head.ensures in
-    let b = going-stuck r.bytes.now c.args.columns c.args.table r.place r.line q.bytes.now q.place q.line c.in-err-head.field-0.0.line c.loop-head.invariant x.read in
+    let x = c.in_err-head.ensures in
+    let b = going-stuck r.bytes.now c.args.columns c.args.table r.place r.line q.bytes.now q.place q.line c.in_err-head.field-0.0.line c.loop-head.invariant x.read in
     let e = x.same ∙ c.loop-head.invariant.same in
     search rules
 
@@ -22,7 +22,7 @@ returns-in-End c =
     let r = c.args.self.now in
     let q = c.loop-head.self in
     let t = c.outcome.new.self in
-    let x = c.in-ok-head.ensures in
+    let x = c.in_ok-head.ensures in
     let m : Moved head_line (GoodHead c.args.table) q.bytes.now q.place q.line End t.place t.line = subst (λ (z : Head). Moved head_line (GoodHead c.args.table) q.bytes.now q.place q.line z t.place t.line) c.in-End.is x.read in
     record { read = going-ends r.bytes.now c.args.columns c.args.table r.place r.line q.bytes.now q.place q.line t.place t.line c.loop-head.invariant m; same = x.same ∙ c.loop-head.invariant.same }
 
@@ -31,22 +31,22 @@ loop-head-preserved c =
     let r = c.args.self.now in
     let q = c.loop-head.self in
     let t = c.outcome.new.self in
-    let x = c.in-ok-head.ensures in
+    let x = c.in_ok-head.ensures in
     let P : Head → Type 0 = λ (z : Head). Moved head_line (GoodHead c.args.table) q.bytes.now q.place q.line z t.place t.line in
     ⊎_elim
     (λ e. going_done r.bytes.now c.args.columns c.args.table r.place r.line q.bytes.now q.place q.line t.bytes.now t.place t.line c.loop-head.invariant (subst P e x.read) x.same)
     (λ e. going-failed r.bytes.now c.args.columns c.args.table r.place r.line q.bytes.now q.place q.line e.0 t.bytes.now t.place t.line c.loop-head.invariant (subst P e.1 x.read) x.same)
     c.in-Done.is
 
-pub returns-in-err-row : goal.returns-in-err-row
-returns-in-err-row c =
+pub returns-in_err-row : goal.returns-in_err-row
+returns-in_err-row c =
     let r = c.args.self.now in
     let q = c.loop-head.self in
     let t = c.outcome.new.self in
-    let x = c.in-ok-head.ensures in
-    let y = c.in-err-row.ensures in
+    let x = c.in_ok-head.ensures in
+    let y = c.in_err-row.ensures in
     let m : Moved head_line (GoodHead c.args.table) q.bytes.now q.place q.line Row t.place t.line = subst (λ (z : Head). Moved head_line (GoodHead c.args.table) q.bytes.now q.place q.line z t.place t.line) c.in-Row.is x.read in
-    let b = going-short r.bytes.now c.args.columns c.args.table r.place r.line q.bytes.now q.place q.line t.bytes.now t.place t.line c.in-err-row.field-0.0.line c.loop-head.invariant m x.same y.read in
+    let b = going-short r.bytes.now c.args.columns c.args.table r.place r.line q.bytes.now q.place q.line t.bytes.now t.place t.line c.in_err-row.field-0.0.line c.loop-head.invariant m x.same y.read in
     let e = y.same ∙ (x.same ∙ c.loop-head.invariant.same) in
     search rules
 
@@ -56,7 +56,7 @@ loop-head-preserved-in-Continue·-branch-2 c =
     let q = c.loop-head.self in
     let t = c.outcome.new.self in
     let u = c.row.new.self in
-    let x = c.in-ok-head.ensures in
-    let y = c.in-ok-row.ensures in
+    let x = c.in_ok-head.ensures in
+    let y = c.in_ok-row.ensures in
     let m : Moved head_line (GoodHead c.args.table) q.bytes.now q.place q.line Row t.place t.line = subst (λ (z : Head). Moved head_line (GoodHead c.args.table) q.bytes.now q.place q.line z t.place t.line) c.in-Row.is x.read in
     going-row r.bytes.now c.args.columns c.args.table r.place r.line q.bytes.now q.place q.line t.bytes.now t.place t.line u.bytes.now u.place u.line c.loop-head.invariant m x.same y.read.0 y.read.1 y.same

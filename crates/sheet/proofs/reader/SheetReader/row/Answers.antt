@@ -7,12 +7,12 @@ use Rattle.sheet.proofs.reader.SheetReader.row.Goals as goal
 pub loop-init : goal.loop-init
 loop-init c = let r = c.args.self.now in walked_none value_line GoodValue r.bytes.now r.place r.line r.within
 
-pub returns-in-err-value : goal.returns-in-err-value
-returns-in-err-value c =
+pub returns-in_err-value : goal.returns-in_err-value
+returns-in_err-value c =
     let r = c.args.self.now in
     let q = c.loop.self in
-    let x = c.in-err-value.ensures in
-    let b = walked-breaks value_line GoodValue r.bytes.now r.place r.line c.loop.counter q.bytes.now q.place q.line c.args.columns c.in-err-value.field-0.0.line c.loop.invariant (omega arith) x.read in
+    let x = c.in_err-value.ensures in
+    let b = walked-breaks value_line GoodValue r.bytes.now r.place r.line c.loop.counter q.bytes.now q.place q.line c.args.columns c.in_err-value.field-0.0.line c.loop.invariant (omega arith) x.read in
     let e = x.same ∙ c.loop.invariant.same in
     search rules
 
@@ -20,7 +20,7 @@ pub loop-preserved : goal.loop-preserved
 loop-preserved c =
     let r = c.args.self.now in
     let q = c.loop.self in
-    let x = c.in-ok-value.ensures in
+    let x = c.in_ok-value.ensures in
     let t = c.value.new.self in
     walked_more value_line GoodValue r.bytes.now r.place r.line c.loop.counter q.bytes.now q.place q.line _ t.bytes.now t.place t.line c.loop.invariant x.read.0 x.same
 

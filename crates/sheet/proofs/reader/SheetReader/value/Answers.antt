@@ -5,8 +5,8 @@ use Rattle.sheet.specs.declared.lines.Cell.{Cell}
 use Rattle.sheet.proofs.Moves.{value-long, passes, moved, stuck}
 use Rattle.sheet.proofs.reader.SheetReader.value.Goals as goal
 
-pub cell-on-value-requires : goal.cell-on-value-requires
-cell-on-value-requires c =
+pub cell_on-value-requires : goal.cell_on-value-requires
+cell_on-value-requires c =
     let r = c.args.self.now in
     (r.within, subst (λ z. CellWithin z c.in-Some.cell) c.rest-rest.ensures c.in-Some.ensures.1)
 
@@ -17,10 +17,10 @@ pass-requires c =
     let v = cell_of t c.in-Some.cell in
     passes value_line GoodValue r.bytes.now t r.place v c.in-Some.n c.rest-rest.ensures r.within (value-long v) c.in-Some.ensures.0
 
-pub returns-in-default : goal.returns-in-default
-returns-in-default c =
+pub returns-in_default : goal.returns-in_default
+returns-in_default c =
     let r = c.args.self.now in
-    record { read = stuck value_line GoodValue r.bytes.now c.rest-rest.result.now r.place r.line c.bad.result.line c.rest-rest.ensures c.in-default.ensures c.bad.ensures; same = refl }
+    record { read = stuck value_line GoodValue r.bytes.now c.rest-rest.result.now r.place r.line c.bad.result.line c.rest-rest.ensures c.in_default.ensures c.bad.ensures; same = refl }
 
 pub returns : goal.returns
 returns c =
@@ -28,7 +28,7 @@ returns c =
     let s = r.bytes.now in
     let t = c.rest-rest.result.now in
     let cell = c.in-Some.cell in
-    let v = cell_of s c.cell-on-value.result in
-    let e = ap (λ z. cell_of z cell) c.rest-rest.ensures ∙ sym c.cell-on-value.ensures.same in
+    let v = cell_of s c.cell_on-value.result in
+    let e = ap (λ z. cell_of z cell) c.rest-rest.ensures ∙ sym c.cell_on-value.ensures.same in
     let m : Reads value_line GoodValue t v c.in-Some.n = subst (λ z. Reads value_line GoodValue t z c.in-Some.n) e c.in-Some.ensures.0 in
-    record { read = (moved value_line GoodValue s t r.place r.line v c.in-Some.n c.pass.new.self.place c.pass.new.self.line c.rest-rest.ensures r.within m c.pass.ensures.place c.pass.ensures.line, c.cell-on-value.ensures.within); same = c.pass.ensures.same }
+    record { read = (moved value_line GoodValue s t r.place r.line v c.in-Some.n c.pass.new.self.place c.pass.new.self.line c.rest-rest.ensures r.within m c.pass.ensures.place c.pass.ensures.line, c.cell_on-value.ensures.within); same = c.pass.ensures.same }

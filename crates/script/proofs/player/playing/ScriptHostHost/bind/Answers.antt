@@ -12,24 +12,24 @@ use Rattle.script.specs.Scripted.{meaning_of}
 use Rattle.script.proofs.Hosted.{same-bound, left_alone}
 use Rattle.script.proofs.player.playing.ScriptHostHost.bind.Goals as goal
 
-pub returns-in-default : goal.returns-in-default
+pub returns-in_default : goal.returns-in_default
 unfolding bind_answer bind_after
-returns-in-default c =
+returns-in_default c =
     let h = c.args.self.now in
     let m = meaning_of h in
     let i = c.args.index in
     let s0 = slot_of c.args.value in
     let ss = take h.parameters h.slots in
     let is = c.slot-slot.ensures in
-    let e : bind_fault m i s0 ≡ None = ap (bind_fault m i) (sym is) ∙ (sym c.bind-fault.ensures.fault ∙ c.in-default.is) in
-    let p = c.in-default.ensures.bindable in
+    let e : bind_fault m i s0 ≡ None = ap (bind_fault m i) (sym is) ∙ (sym c.bind_fault.ensures.fault ∙ c.in_default.is) in
+    let p = c.in_default.ensures.bindable in
     let lt : i - 1 < h.parameters = omega (arith, p.0, p.1) in
     let after = take-set-lt h.parameters h.slots (i - 1) c.slot-slot.result lt ∙ (ap (λ (z : Slot). set ss (i - 1) z) is ∙ sym (ap (λ (f : Option BindFault). slots_after f ss i s0) e)) in
     record { answer = sym (ap fault_answer e); after = same-bound (sheet_at h.bytes.now) (take h.parameters (set h.slots (i - 1) c.slot-slot.result)) (slots_after (bind_fault m i s0) ss i s0) h.index h.stepped (row_at h.bytes.now h.columns h.row) h.byte_limit 0 (bind_code (bind_fault m i s0)) after (sym (ap bind_code e)) }
 
-pub returns-in-Too_big : goal.returns-in-Too_big
+pub returns-in-TooBig : goal.returns-in-TooBig
 unfolding bind_answer bind_after
-returns-in-Too_big c =
+returns-in-TooBig c =
     let h = c.args.self.now in
     let m = meaning_of h in
     let i = c.args.index in
@@ -37,7 +37,7 @@ returns-in-Too_big c =
     let s0 = slot_of c.args.value in
     let ss = take h.parameters h.slots in
     let is = c.slot-slot.ensures in
-    let e : bind_fault m i s0 ≡ Some f = ap (bind_fault m i) (sym is) ∙ (sym c.bind-fault.ensures.fault ∙ c.in-Some.is) in
+    let e : bind_fault m i s0 ≡ Some f = ap (bind_fault m i) (sym is) ∙ (sym c.bind_fault.ensures.fault ∙ c.in-Some.is) in
     let p : Bindable (Some TooBig) i h.parameters = subst (λ (z : BindFault). Bindable (Some z) i h.parameters) c.in-TooBig.is c.in-Some.ensures.bindable in
     let lt : i - 1 < h.parameters = omega (arith, p.0, p.1) in
     let k : bind_fault m i s0 ≡ Some TooBig = e ∙ ap (λ (z : BindFault). Some z) c.in-TooBig.is in
@@ -54,6 +54,6 @@ returns-in-Misuse c =
     let s0 = slot_of c.args.value in
     let ss = take h.parameters h.slots in
     let is = c.slot-slot.ensures in
-    let e : bind_fault m i s0 ≡ Some f = ap (bind_fault m i) (sym is) ∙ (sym c.bind-fault.ensures.fault ∙ c.in-Some.is) in
+    let e : bind_fault m i s0 ≡ Some f = ap (bind_fault m i) (sym is) ∙ (sym c.bind_fault.ensures.fault ∙ c.in-Some.is) in
     let after = left_alone f ss i s0 c.in-Misuse.is ∙ sym (ap (λ (z : Option BindFault). slots_after z ss i s0) e) in
     record { answer = sym (ap fault_answer e); after = same-bound (sheet_at h.bytes.now) ss (slots_after (bind_fault m i s0) ss i s0) h.index h.stepped (row_at h.bytes.now h.columns h.row) h.byte_limit c.code-self-in-Misuse.result (bind_code (bind_fault m i s0)) after (c.code-self-in-Misuse.ensures ∙ sym (ap bind_code e)) }

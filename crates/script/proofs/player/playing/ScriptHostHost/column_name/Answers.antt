@@ -12,6 +12,6 @@ returns c =
     let s = self.bytes.now in
     let ns = (sheet_at s).names in
     let e = self.every in
-    let l = c.if-not-has-column.ensures.0 refl in
+    let l = c.if-not-has_column.ensures.0 refl in
     let h : c.args.index < length ns = omega arith in
-    by_name c.name-at.result ns c.args.index h (c.name-at.ensures ns (drop (self.names + length (flat_map name_line ns)) s) h (sheet-fine (sheet_at s) self.good).names self.named)
+    by_name c.name_at.result ns c.args.index h (c.name_at.ensures ns (drop (self.names + length (flat_map name_line ns)) s) h (sheet-fine (sheet_at s) self.good).names self.named)

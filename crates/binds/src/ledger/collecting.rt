@@ -96,7 +96,7 @@ impl<'a> Collecting<'a> {
         requires few { length (leases_of self.old.ledger.now) < 32 }
         requires fits { self.old.ledger.now.used ≤ room }
         ensures answer { is_ok result ≡ nat_le (self.old.ledger.now.used + span_length owned) room }
-        ensures used { self.new.ledger.now.used ≡ cond (is_ok result) (self.old.ledger.now.used + span_length owned) self.old.ledger.now.used }
+        ensures used { self.new.ledger.now.used ≡ (if is_ok result then self.old.ledger.now.used + span_length owned else self.old.ledger.now.used) }
         ensures leases { leases_of self.new.ledger.now ≡ (if is_ok result then leases_of self.old.ledger.now ++ lease_of self.old.ledger.now.used owned else leases_of self.old.ledger.now) }
         ensures before { self.new.before ≡ self.old.before }
         ensures lender { self.new.ledger.ghost_name ≡ self.old.ledger.ghost_name }

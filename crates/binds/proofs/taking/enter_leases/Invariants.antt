@@ -10,4 +10,4 @@ invariant-loop-value l =
     × (l.collecting.ledger.now.used ≤ l.room)
     × (length (leases_of l.collecting.ledger.now) ≤ l.value-index)
     × (l.collecting.before ≡ l.initial.collecting.before)
-    × (l.collecting.ledger.name ≡ l.initial.collecting.ledger.name)
+    × (l.collecting.ledger.ghost_name ≡ l.initial.collecting.ledger.ghost_name)

@@ -38,25 +38,25 @@ loop-head-preserved c =
     (λ e. going-failed r.bytes.now c.args.columns c.args.table r.place r.line q.bytes.now q.place q.line e.0 t.bytes.now t.place t.line c.loop-head.invariant (subst P e.1 x.read) x.same)
     c.in-Done.is
 
-pub returns-in_err-row : goal.returns-in_err-row
-returns-in_err-row c =
+pub returns-in_err-row-in-Row : goal.returns-in_err-row-in-Row
+returns-in_err-row-in-Row c =
     let r = c.args.self.now in
     let q = c.loop-head.self in
     let t = c.outcome.new.self in
     let x = c.in_ok-head.ensures in
-    let y = c.in_err-row.ensures in
+    let y = c.in_err-row-in-Row.ensures in
     let m : Moved head_line (GoodHead c.args.table) q.bytes.now q.place q.line Row t.place t.line = subst (λ (z : Head). Moved head_line (GoodHead c.args.table) q.bytes.now q.place q.line z t.place t.line) c.in-Row.is x.read in
-    let b = going-short r.bytes.now c.args.columns c.args.table r.place r.line q.bytes.now q.place q.line t.bytes.now t.place t.line c.in_err-row.field-0.0.line c.loop-head.invariant m x.same y.read in
+    let b = going-short r.bytes.now c.args.columns c.args.table r.place r.line q.bytes.now q.place q.line t.bytes.now t.place t.line c.in_err-row-in-Row.field-0.0.line c.loop-head.invariant m x.same y.read in
     let e = y.same ∙ (x.same ∙ c.loop-head.invariant.same) in
     search rules
 
-pub loop-head-preserved-in-Continue·-branch-2 : goal.loop-head-preserved-in-Continue·-branch-2
-loop-head-preserved-in-Continue·-branch-2 c =
+pub loop-head-preserved-in-Continue-branch-2 : goal.loop-head-preserved-in-Continue-branch-2
+loop-head-preserved-in-Continue-branch-2 c =
     let r = c.args.self.now in
     let q = c.loop-head.self in
     let t = c.outcome.new.self in
     let u = c.row.new.self in
     let x = c.in_ok-head.ensures in
-    let y = c.in_ok-row.ensures in
+    let y = c.in_ok-row-in-Row.ensures in
     let m : Moved head_line (GoodHead c.args.table) q.bytes.now q.place q.line Row t.place t.line = subst (λ (z : Head). Moved head_line (GoodHead c.args.table) q.bytes.now q.place q.line z t.place t.line) c.in-Row.is x.read in
     going-row r.bytes.now c.args.columns c.args.table r.place r.line q.bytes.now q.place q.line t.bytes.now t.place t.line u.bytes.now u.place u.line c.loop-head.invariant m x.same y.read.0 y.read.1 y.same

@@ -21,7 +21,7 @@ loop-turn-preserved g c =
 pub loop-turn-init : goal.loop-turn-init
 loop-turn-init g c =
     let n = c.in_ok-answers.ensures in
-    (ap (λ z. z ++ answers_to (record { state = state_of g.X.Host.meaning c.new-statement.result; desk = desk_of c.new-buffers.result }) (into_iter_items c.into_iter-turn-iterator.result)) n.items, refl, let b = ap length c.into_iter-turn-iterator.ensures.into_iter-gives.0 in let k = c.args.turns.ok.0 in omega (arith, n.len, n.capacity, c.len.ensures))
+    (ap (λ z. z ++ answers_to (record { state = state_of g.X.Host.meaning c.new-statement.result; desk = desk_of c.new-buffers.result }) (into_iter_items c.into_iter-turn-iterator.result)) n.items, refl, let b = ap length c.into_iter-turn-iterator.ensures.into_iter_gives.0 in let k = c.args.turns.ok.0 in omega (arith, n.len, n.capacity, c.len.ensures))
 
 pub push_reserved-requires : goal.push_reserved-requires
 push_reserved-requires g c =
@@ -37,7 +37,7 @@ returns g c =
     let ok = c.loop-turn.turn-iterator.rest.ok.0 in
     let none : length (into_iter_items c.loop-turn.turn-iterator) ≡ 0 = omega arith in
     let a = starts (m c.args.host) (state_of m c.new-statement.result) (desk_of c.new-buffers.result) c.new-statement.ensures c.new-buffers.ensures in
-    let b = c.into_iter-turn-iterator.ensures.into_iter-gives.0 in
+    let b = c.into_iter-turn-iterator.ensures.into_iter_gives.0 in
     let x : Answers (m c.args.host) (vec_items c.args.turns) (vec_items l.answers) (state_of m l.statement) (desk_of l.buffers) =
     record { told = answers-done _ _ _ _ none l.invariant.0 ∙ ap₂ answers_to a b; ends = after-done _ _ _ none l.invariant.1 ∙ ap₂ after_all a b } in
     let k = kept_run (m c.args.host) (vec_items c.args.turns) (vec_items l.answers) (state_of m l.statement) (desk_of l.buffers) c.laws.ensures x in

@@ -10,7 +10,7 @@ pub invariant_of-result : goal.invariant_of-result
 invariant_of-result c =
     let h = c.args.sheet in
     let k = kept h.bytes.now h.columns h.parameters h.copy_limit h.names h.outcomes h.end h.table c.requires in
-    (k.good, (k.every, (k.each, (k.few, (refl, (k.named, (k.begins, (k.begins, tt))))))))
+    record { good = k.good; every = k.every; each = k.each; few = k.few; table = refl; named = k.named; begins = k.begins; stands = k.begins }
 
 pub returns : goal.returns
 unfolding script_start

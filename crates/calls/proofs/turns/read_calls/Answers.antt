@@ -13,11 +13,11 @@ loop-letter-preserved c =
     let read = c.in-Ok.read in
     let after = c.next_turn.new.self in
     let x = c.in-Ok.ensures in
-    let a = c.in_ok-push.ensures.len in
-    let b = c.in_ok-push-2.ensures.len in
+    let a = c.in_ok-push-in-Ok.ensures.len in
+    let b = c.in_ok-push-in-Ok-2.ensures.len in
     let e = w.0 in
     let turn : Turn = record { call = read.call; text = read.text; given = read.given; room = l.lent } in
-    let y = reading-more (Some (vec_items c.args.room)) s l.reader.bytes.now l.reader.place (vec_items l.letters) (vec_items l.turns) l.lent c.in-Some.letter after.place read turn after.bytes.now (vec_items c.push.new.self) (vec_items c.push-in-Ok.new.self) w.2 x.read c.in-Some.ensures.1 refl refl refl refl x.same c.in_ok-push.ensures.items c.in_ok-push-2.ensures.items in
+    let y = reading-more (Some (vec_items c.args.room)) s l.reader.bytes.now l.reader.place (vec_items l.letters) (vec_items l.turns) l.lent c.in-Some.letter after.place read turn after.bytes.now (vec_items c.push.new.self) (vec_items c.push-in-Ok.new.self) w.2 x.read c.in-Some.ensures.1 refl refl refl refl x.same c.in_ok-push-in-Ok.ensures.items c.in_ok-push-in-Ok-2.ensures.items in
     (omega arith, x.same ∙ w.1, y)
 
 pub returns-in-Err-Malformed : goal.returns-in-Err-Malformed

@@ -1,8 +1,7 @@
 -- Collecting values: one turn of each loop, over plain values.
-use Rattle.std.proofs.Common.{◌≡◌, ℕ, zero, suc, ◌+◌, ◌-◌, ◌<◌, ◌≤◌, Bool, true, false, cond, ◌&&◌, leb, List, [], ◌∷◌, ◌++◌, length, get_or, take, drop, set, is_ok, Some, None, Ok, Err, Option, Result, sym, refl, ap, ◌∙◌, ap₂, append_assoc, append-nil, add-zero, add_assoc, add-suc, zero-add, add-one, arith, length-append, length-drop, le-leb, leb-false, leb-true}
+use Rattle.std.proofs.Common.{◌≡◌, ℕ, suc, ◌+◌, ◌-◌, ◌<◌, ◌≤◌, Bool, true, false, cond, ◌&&◌, leb, List, [], ◌∷◌, ◌++◌, length, get_or, take, drop, set, is_ok, Some, None, Ok, Err, Option, Result, sym, refl, ap, ◌∙◌, ap₂, append_assoc, append-nil, add-zero, arith, length-append, length-drop, le-leb, leb-false, leb-true}
 use borrow.Author.Tests.{lt-leb}
-use Rattle.std.proofs.lemmas.Bool.Decides.{nat_tests}
-use Rattle.std.proofs.lemmas.List.{at_drop_more, at_drop_all, take_more, take_more_set, length-take-le, take_at, drop_at, take-append-drop, drop-drop, take_all}
+use Rattle.std.proofs.lemmas.List.{at_drop_more, at_drop_all, take_more, take_more_set, length-take-le, take_at, drop_at, take-append-drop, drop-drop}
 use Rattle.host.specs.Meaning.{Meaning}
 use Rattle.binds.specs.declared.collector.Span.{Span}
 use Rattle.binds.specs.declared.collector.SqliteBindValue.{SqliteBindValue}

@@ -1,5 +1,5 @@
 -- One turn of each loop, over plain values.
-use Rattle.std.proofs.Common.{◌≡◌, ℕ, zero, suc, ◌+◌, ◌-◌, ◌<◌, ◌≤◌, Bool, true, false, cond, ◌&&◌, List, [], ◌∷◌, ◌++◌, length, get_or, take, drop, Some, None, Ok, Err, Option, Result, sym, refl, ap, ◌∙◌, arith}
+use Rattle.std.proofs.Common.{◌≡◌, ℕ, zero, suc, ◌+◌, ◌-◌, ◌<◌, ◌≤◌, true, List, length, get_or, drop, Some, None, Ok, Err, Option, Result, sym, refl, ap, ◌∙◌, arith}
 use Rattle.std.proofs.lemmas.List.{at_drop_more, at_drop_all}
 use Rattle.host.specs.Meaning.{Meaning, bind_after, bind_answer, bind_fault, fault_answer}
 use Rattle.host.specs.declared.Slot.{Slot}
@@ -10,7 +10,7 @@ use Rattle.binds.specs.declared.taking.Unbindable.{Unbindable}
 use Rattle.binds.specs.Leases.{zeroed, zeroed_span}
 use Rattle.binds.specs.Cleared.{nulled, count_up}
 use Rattle.binds.specs.Pairs.{Pair, pairs_up, slot_for}
-use Rattle.binds.specs.Tried.{fault_why, fault_unbindable, one_why, one_after, why_answer}
+use Rattle.binds.specs.Tried.{fault_unbindable, one_why, one_after, why_answer}
 
 pub null-step : (m m' m₀ : Meaning) (slots : List ℕ) (i : ℕ) (s : Slot) → i < length slots → nulled m (drop i slots) ≡ nulled m₀ slots → s ≡ slot.Null → m' ≡ bind_after m (get_or slots i 0) s → nulled m' (drop (i + 1) slots) ≡ nulled m₀ slots
 unfolding nulled

@@ -1,10 +1,9 @@
 -- Facts on parts of buffers and on lists of pairs.
-use Rattle.std.proofs.Common.{◌≡◌, ℕ, zero, suc, ◌+◌, ◌-◌, ◌<◌, ◌≤◌, Bool, true, false, cond, ◌&&◌, leb, List, [], ◌∷◌, ◌++◌, length, get_or, take, drop, Some, None, Option, sym, refl, ap, ◌∙◌, append_assoc, append-nil, add-zero, add_assoc, add-suc, arith, length-append, length-drop, le-leb, leb-true}
-use Rattle.std.proofs.lemmas.List.{length-take-le, take_more, at_drop_more}
+use Rattle.std.proofs.Common.{◌≡◌, ℕ, ◌+◌, ◌≤◌, List, length, drop, ap, ◌∙◌, arith, length-drop, le-leb}
+use Rattle.std.proofs.lemmas.List.{length-take-le}
 use Rattle.host.specs.Slots.{within, lent, part_bytes}
 use Rattle.host.specs.declared.Part.{Part}
 use Rattle.host.specs.declared.Slot.TheVariants as slot
-use Rattle.binds.specs.Pairs.{Pair, takes_bytes, number_if, byte_slots}
 
 pub within-length : (s : List ℕ) (start len : ℕ) → start + len ≤ length s → length (within s start len) ≡ len
 within-length s start len h =

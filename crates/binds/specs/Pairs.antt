@@ -1,5 +1,5 @@
 -- What a caller asks of a list of (declared type, value) pairs.
-use Rattle.std.specs.Prelude.{ℕ, ◌+◌, Bool, true, false, cond, ◌&&◌, ◌||◌, List, [], ◌∷◌, ◌++◌, take, drop, Some, None, Option, ◌==◌, nat_le}
+use Rattle.std.specs.Prelude.{ℕ, ◌+◌, Bool, true, false, ◌&&◌, ◌||◌, List, [], ◌∷◌, ◌++◌, take, drop, Some, None, Option, ◌==◌, nat_le}
 use Rattle.values.specs.Types.{type_number}
 use Rattle.values.specs.declared.SqliteType.{SqliteType}
 use Rattle.host.specs.Slots.{double_slot}

@@ -1,5 +1,5 @@
 -- Binding value by value.
-use Rattle.std.specs.Prelude.{ℕ, ◌+◌, Bool, true, false, cond, List, [], ◌∷◌, Some, None, Ok, Err, Option, Result}
+use Rattle.std.specs.Prelude.{ℕ, ◌+◌, cond, List, [], ◌∷◌, Some, None, Ok, Err, Option, Result}
 use Rattle.host.specs.Meaning.{Meaning, bind_fault, bind_after}
 use Rattle.host.specs.declared.BindFault.{BindFault}
 use Rattle.binds.specs.Pairs.{Pair, pairs_up, slot_for, owned_span, span_length}

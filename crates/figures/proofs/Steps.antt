@@ -1,13 +1,13 @@
 -- A figure in front of bytes against the run of digits there; figures, pieces and signed figures are read in one way.
-use Rattle.std.proofs.Common.{◌≡◌, ℕ, suc, ◌+◌, ◌-◌, ◌*◌, ◌^◌, ◌<◌, ◌≤◌, ◌⊎◌, List, [], ◌∷◌, ◌++◌, length, get_or, take, drop, ℤ, pos, negsuc, decimal, sym, refl, ap, ◌∙◌, inl, inr, ⊎_elim, add-one, arith, length-append, rules}
+use Rattle.std.proofs.Common.{◌≡◌, ℕ, suc, ◌+◌, ◌-◌, ◌*◌, ◌^◌, ◌<◌, ◌≤◌, List, [], ◌∷◌, ◌++◌, length, get_or, take, drop, ℤ, pos, negsuc, decimal, sym, refl, ap, ◌∙◌, ⊎_elim, add-one, arith, length-append, rules}
 use lib.Signed.{mag}
 use Rattle.std.specs.Int.{IsInRange}
 use Rattle.std.specs.Fmt.{signed_decimal}
 use Rattle.std.proofs.lemmas.Str.Parse.{IsNumeralModel, numerals_by_fold, tells_by_index, digits_value_short}
 use Rattle.std.proofs.lemmas.Fmt.{decimal_digit, digits_decimal, digits_value-decimal, decimal_nonempty, first_decimal, decimal-digits_value, length-decimal-le}
 use Rattle.std.proofs.lemmas.List.{get_or_at, get_or-take, length-take-le, take-append-drop, drop_more, take_more, take_at, append_cancel_left, length-drop, get_or-drop, drop-drop, drop_at, get_or_append_left}
-use Rattle.std.proofs.lemmas.List.Prefix.{front_fits, front_reads, front_rest}
-use Rattle.std.proofs.lemmas.Bool.{cases_order, cases_lt}
+use Rattle.std.proofs.lemmas.List.Prefix.{front_reads}
+use Rattle.std.proofs.lemmas.Bool.{cases_lt}
 use Rattle.figures.specs.Figures.{stop_byte, read_on, Run, Figured, Pieced, Numbered}
 use Rattle.figures.specs.declared.Stop.{Stop}
 use Rattle.figures.specs.declared.Stop.TheVariants.{Space, Line}

@@ -1,5 +1,5 @@
 -- What a host stands for, and what each of its functions does to that.
-use Rattle.std.specs.Prelude.{◌≡◌, ℕ, ◌-◌, Bool, true, false, cond, not, ◌&&◌, List, [], ◌∷◌, map, length, Some, None, Ok, Err, Option, Result, nat_le, nat_lt, slice_set}
+use Rattle.std.specs.Prelude.{ℕ, ◌-◌, Bool, true, false, not, ◌&&◌, List, [], ◌∷◌, map, Some, None, Ok, Err, Option, Result, nat_le, nat_lt, slice_set}
 use Rattle.values.specs.Value.{Value}
 use Rattle.values.specs.Order.{first_of}
 use Rattle.host.specs.Outcome.{Outcome, row, done, failed}

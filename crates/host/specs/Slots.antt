@@ -1,5 +1,5 @@
 -- Slots, and the bytes that a slot names in the text and the room.
-use Rattle.std.specs.Prelude.{ℕ, ◌+◌, Bool, true, false, cond, List, [], length, take, drop, nat_le}
+use Rattle.std.specs.Prelude.{ℕ, ◌+◌, cond, List, [], length, take, drop, nat_le}
 use Rattle.std.specs.Float.Ieee as Ieee
 use Rattle.std.specs.Float.{binary64}
 use Rattle.values.specs.Value.{Value, null, long, double, text, blob}
@@ -8,7 +8,6 @@ use Rattle.host.specs.declared.Source.TheVariants as source
 use Rattle.host.specs.declared.Part.{Part}
 use Rattle.host.specs.declared.Slot.{Slot}
 use Rattle.host.specs.declared.Slot.TheVariants as slot
-use Rattle.host.specs.declared.TextValue.{TextValue}
 use Rattle.host.specs.declared.HostValue.{HostValue}
 use Rattle.host.specs.declared.HostValue.TheVariants as given
 

@@ -1,23 +1,21 @@
 -- The invariant of a run, and that each call keeps it.
-use Rattle.std.proofs.Common.{◌≡◌, ℕ, zero, suc, ◌+◌, ◌-◌, ◌<◌, ◌≤◌, Bool, true, false, cond, not, ◌&&◌, ◌||◌, eqb, ltb, leb, ◌⊎◌, List, [], ◌∷◌, ◌++◌, map, length, take, drop, replicate, Some, None, Ok, Err, Option, Result, sym, refl, ap, ◌∙◌, subst, ap₂, inl, inr, ⊎_elim, append_assoc, append-nil, arith, length-append, length-drop}
+use Rattle.std.proofs.Common.{◌≡◌, ℕ, zero, suc, ◌+◌, ◌-◌, ◌≤◌, Bool, true, false, cond, not, ◌⊎◌, List, [], ◌∷◌, ◌++◌, map, length, take, drop, replicate, Some, None, Option, sym, refl, ap, ◌∙◌, subst, ap₂, inl, inr, ⊎_elim, arith, length-append, length-drop}
 use lib.ListN.{length-replicate}
 use Rattle.std.proofs.lemmas.List.{take_all, length-take-le, map-append}
 use Rattle.values.specs.Order.{first_of}
 use Rattle.host.specs.Outcome.{Outcome, row, done, failed}
 use Rattle.host.specs.Slots.{slot_value}
 use Rattle.host.specs.Meaning.{Meaning, reset_after, step_after, step_answer, outcome_answer, ran}
-use Rattle.host.specs.Sound.{Sound}
 use Rattle.host.specs.declared.Slot.{Slot}
 use Rattle.host.specs.declared.Slot.TheVariants as slot
-use Rattle.host.specs.declared.BindFault.{BindFault}
 use Rattle.host.specs.declared.BindFault.TheVariants.{Misuse, Range, TooBig}
 use Rattle.binds.specs.declared.refusal.Refusal.{Refusal}
 use Rattle.binds.specs.declared.taking.Unbindable.{Unbindable}
 use Rattle.binds.specs.declared.taking.Unbindable.TheVariants.{Unpaired, Fault}
-use Rattle.binds.specs.Pairs.{Pair, slot_for, owned_span, span_length, owned_count, leases_from, byte_slots}
-use Rattle.statement.specs.State.{State, is_current, set_up, set_up_host}
+use Rattle.binds.specs.Pairs.{Pair, owned_span, span_length, owned_count, leases_from, byte_slots}
+use Rattle.statement.specs.State.{State, is_current, set_up}
 use Rattle.binds.specs.Cleared.{nulled, cleared, count_up}
-use Rattle.binds.specs.Tried.{Tried, tried, bind_from}
+use Rattle.binds.specs.Tried.{bind_from}
 use Rattle.statement.proofs.Taken.{all-bound, leases-count}
 use Rattle.runs.specs.Turns.{Asked, bind, execute, end, Desk, says, goes}
 use Rattle.runs.specs.declared.turns.Answer.{Answer}
@@ -29,8 +27,8 @@ use Rattle.statement.specs.State.{with_host}
 use Rattle.binds.specs.Tried.{refusal_at}
 use Rattle.runs.specs.Turns.{bound_answer, executed_answer, ended_answer}
 use Rattle.runs.specs.Past.{bound, undone, stepped, ended, nothing, bind_event, execute_event, end_event, event_by, live_by, steps_by, accepted_by, returned_by, slots_by, place_by, RightBy, RightStep}
-use Rattle.runs.specs.Past.{Turned, Past, Event, event_of, live_in, steps_in, accepted_in, returned_in, slots_from, forget, null_first, slots_in, values_at, place_in, step_number, step_figure, AllRight}
-use Rattle.runs.proofs.Slots.{Still, still-on, Bindings, behind, tried-slots, Ready, null-rest, null-bytes}
+use Rattle.runs.specs.Past.{Turned, Past, Event, event_of, live_in, steps_in, accepted_in, returned_in, slots_from, forget, null_first, slots_in, values_at, place_in, AllRight}
+use Rattle.runs.proofs.Slots.{Still, behind, tried-slots, null-rest, null-bytes}
 
 never : {A : Type 0} → ◌≡◌ {A = ℕ} 0 1 → A
 never e = absurd (omega arith)

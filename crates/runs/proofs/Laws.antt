@@ -1,5 +1,5 @@
 -- The laws over a run, from its invariant.
-use Rattle.std.proofs.Common.{◌≡◌, ℕ, zero, suc, ◌+◌, ◌<◌, ◌≤◌, Bool, true, false, cond, List, [], ◌∷◌, ◌++◌, map, length, Some, None, Option, sym, refl, ap, ◌∙◌, subst, ap₂, arith}
+use Rattle.std.proofs.Common.{◌≡◌, ℕ, ◌+◌, Bool, true, false, cond, List, [], ◌∷◌, ◌++◌, map, length, sym, refl, ap, ◌∙◌, subst, arith}
 use lib.Ieee as Ieee
 use lib.Ieee.{binary64}
 use Rattle.host.specs.Meaning.{Meaning}
@@ -9,7 +9,7 @@ use Rattle.host.specs.declared.Slot.{Slot}
 use Rattle.host.specs.declared.Slot.TheVariants as slot
 use Rattle.binds.specs.declared.collector.SqliteBindValue.{SqliteBindValue}
 use Rattle.binds.specs.declared.collector.SqliteBindValue.TheVariants.{BorrowedString, String, BorrowedBinary, Binary, I32, I64, F64, Null}
-use Rattle.binds.specs.Pairs.{Pair, slot_for, owned_span, span_length, one_if, owned_count, leases_from}
+use Rattle.binds.specs.Pairs.{Pair, slot_for, owned_span, span_length, one_if, owned_count}
 use Rattle.statement.specs.State.{State}
 use Rattle.statement.proofs.Taken.{leases-count}
 use Rattle.runs.specs.Turns.{asked, lent_at, Desk, At, turn_says, turn_goes, starting, after_all, answers_to, Answers}

@@ -1,18 +1,17 @@
 -- What binding and making null do to the slots of a host.
-use Rattle.std.proofs.Common.{◌≡◌, ℕ, zero, suc, ◌+◌, ◌-◌, ◌<◌, ◌≤◌, Bool, true, false, cond, not, ◌&&◌, ltb, leb, ◌⊎◌, List, [], ◌∷◌, ◌++◌, map, length, take, drop, set, replicate, Some, None, Option, sym, refl, ap, ◌∙◌, subst, ap₂, inl, inr, ⊎_elim, append_assoc, append-nil, add-zero, arith, length-append, le-ltb, le-leb, leb-true}
+use Rattle.std.proofs.Common.{◌≡◌, ℕ, zero, suc, ◌+◌, ◌-◌, ◌≤◌, Bool, true, false, cond, not, ◌&&◌, ltb, leb, ◌⊎◌, List, [], ◌∷◌, ◌++◌, map, length, take, drop, set, replicate, Some, None, Option, sym, refl, ap, ◌∙◌, subst, ap₂, inl, inr, ⊎_elim, append_assoc, arith, length-append, le-ltb, le-leb, leb-true}
 use Rattle.values.specs.Order.{first_of}
-use Rattle.values.specs.Value.{Value}
 use Rattle.host.specs.Slots.{slot_length, double_slot}
-use Rattle.host.specs.Meaning.{Meaning, Program, bind_fault, bind_after, slots_after, bind_code}
+use Rattle.host.specs.Meaning.{Meaning, bind_fault, bind_after, slots_after}
 use Rattle.host.specs.declared.Slot.{Slot}
 use Rattle.host.specs.declared.Slot.TheVariants as slot
 use Rattle.host.specs.declared.BindFault.{BindFault}
 use Rattle.host.specs.declared.BindFault.TheVariants.{Misuse, Range, TooBig}
 use Rattle.binds.specs.declared.taking.Unbindable.{Unbindable}
 use Rattle.binds.specs.declared.taking.Unbindable.TheVariants.{Unpaired, Fault}
-use Rattle.binds.specs.Pairs.{Pair, pairs_up, slot_for, owned_span, span_length, takes_bytes, byte_slots, number_if}
+use Rattle.binds.specs.Pairs.{Pair, pairs_up, slot_for, owned_span, span_length, takes_bytes, byte_slots}
 use Rattle.binds.specs.Cleared.{nulled, count_up}
-use Rattle.binds.specs.Tried.{Tried, tried, one_why, one_after, go_on, bind_from}
+use Rattle.binds.specs.Tried.{Tried, tried, bind_from}
 use Rattle.runs.specs.Past.{slots_from, null_first, forget}
 use Rattle.binds.specs.declared.collector.SqliteBindValue.{SqliteBindValue}
 use Rattle.binds.specs.declared.collector.SqliteBindValue.TheVariants.{BorrowedString, String, BorrowedBinary, Binary, I32, I64, F64, Null}

@@ -3,7 +3,7 @@ use Rattle.std.proofs.Common.{◌≡◌, ℕ, suc, List, [], ◌∷◌, ◌++◌
 use Rattle.host.specs.Meaning.{Meaning}
 use Rattle.std.specs.declared.alloc.Global.{Global}
 use Rattle.statement.specs.State.{State, set_up}
-use Rattle.runs.specs.Turns.{Asked, asked, lent_bytes, lent_at, Desk, At, says, goes, leaves, kept_text, turn_says, turn_desk, turn_goes, starting, after_all, answers_to}
+use Rattle.runs.specs.Turns.{asked, lent_bytes, lent_at, Desk, At, says, goes, leaves, kept_text, turn_says, turn_goes, starting, after_all, answers_to}
 use Rattle.runs.specs.declared.turns.Lent.{Lent}
 use Rattle.runs.specs.declared.turns.Lent.TheVariants.{Fresh, Kept}
 use Rattle.runs.specs.declared.turns.Turn.{Turn}

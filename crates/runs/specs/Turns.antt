@@ -1,5 +1,5 @@
 -- What a turn asks and is lent, what it is answered, and where it leads.
-use Rattle.std.specs.Prelude.{◌≡◌, ℕ, Bool, true, false, List, [], ◌∷◌, Ok, Err, vec_items, Result}
+use Rattle.std.specs.Prelude.{◌≡◌, ℕ, List, [], ◌∷◌, Ok, Err, vec_items, Result}
 use Rattle.host.specs.Meaning.{Meaning}
 use Rattle.host.specs.declared.Stepped.{Stepped}
 use Rattle.host.specs.declared.Stepped.TheVariants.{Row, Done}

@@ -1,5 +1,5 @@
 -- What a script host keeps of its sheet, as tests and equations, against what playing asks and gives.
-use Rattle.std.proofs.Common.{◌≡◌, ℕ, zero, suc, ◌+◌, ◌-◌, ◌%◌, ◌^◌, ◌<◌, ◌≤◌, Bool, true, false, not, ◌&&◌, eqb, ltb, leb, ◌⊎◌, List, [], ◌∷◌, ◌++◌, map, length, get_or, take, drop, replicate, Some, None, Option, sym, refl, ap, ◌∙◌, subst, ⊎_elim, append_assoc, arith, length-append, length-drop}
+use Rattle.std.proofs.Common.{◌≡◌, ℕ, zero, suc, ◌+◌, ◌%◌, ◌^◌, ◌<◌, ◌≤◌, Bool, true, false, not, ◌&&◌, eqb, ltb, leb, ◌⊎◌, List, [], ◌∷◌, ◌++◌, length, get_or, take, drop, replicate, Some, None, Option, sym, refl, ap, ◌∙◌, subst, ⊎_elim, arith, length-drop}
 use lib.Signed.{mag}
 use Rattle.std.specs.Int.{IsInRange}
 use Rattle.std.specs.List.{flat_map, AllByRecursion as All}
@@ -13,22 +13,20 @@ use Rattle.host.specs.Meaning.{Meaning, bind_fault, slots_after, outcome_row, ou
 use Rattle.host.specs.Slots.{slot_length}
 use Rattle.host.specs.declared.BindFault.{BindFault}
 use Rattle.host.specs.declared.BindFault.TheVariants.{Misuse, Range, TooBig}
-use Rattle.host.specs.Sound.{Rowable, Counted, Sound}
+use Rattle.host.specs.Sound.{Rowable, Sound}
 use Rattle.host.specs.declared.Slot.{Slot}
 use Rattle.sheet.proofs.Decoded.{sheet-at, values-at}
 use Rattle.sheet.proofs.Standing.{at-within}
-use Rattle.sheet.specs.Sheet.{Sheet, name_line, value_line, body_lines, together, GoodName, GoodValue, GoodCode, GoodOutcome, WellFormed, Holds}
+use Rattle.sheet.specs.Sheet.{Sheet, name_line, value_line, body_lines, together, GoodName, GoodValue, GoodOutcome, WellFormed}
 use Rattle.sheet.specs.Decode.{values_at, sheet_at}
 use Rattle.script.specs.Fine.{fine_bytes, fine_name, fine_names, fine_value, fine_values, fine_outcome, fine_outcomes, fine_sheet}
 use Rattle.sheet.specs.Places.{At, Accepted, Plays}
 use Rattle.script.specs.Scripted.{meaning_of}
 use Rattle.script.specs.declared.player.ScriptHost.{ScriptHost}
-use Rattle.script.specs.Program.{gives, script_program, no_copies, script_meaning, row_at, Stands, NamesStand, outcome_of, Advanced}
-use Rattle.sheet.specs.declared.play.Played.{Played}
+use Rattle.script.specs.Program.{gives, script_meaning, row_at, Stands, NamesStand, outcome_of, Advanced}
 use Rattle.sheet.specs.declared.play.Played.TheVariants as played
 use Rattle.script.specs.declared.moves.Move.{Move}
 use Rattle.script.specs.declared.moves.Move.TheVariants as move
-use Rattle.script.specs.declared.moves.Advance.{Advance}
 
 -- The tests say what the rules say.
 bytes_good : (bs : List ℕ) → fine_bytes bs ≡ true → (k : ℕ) → k < length bs → IsInRange 33 126 (get_or bs k 0)

@@ -1,5 +1,5 @@
 -- The program of a script: its outcomes in order, whatever the slots hold.
-use Rattle.std.specs.Prelude.{◌≡◌, ℕ, ◌+◌, ◌≤◌, Bool, true, false, List, [], ◌∷◌, ◌++◌, length, drop, replicate, Some, None, Option}
+use Rattle.std.specs.Prelude.{◌≡◌, ℕ, ◌+◌, ◌≤◌, Bool, false, List, [], ◌∷◌, ◌++◌, length, drop, replicate, Some, None, Option}
 use Rattle.std.specs.List.{flat_map}
 use Rattle.values.specs.Value.{Value}
 use Rattle.host.specs.Outcome.{Outcome, row, done, failed}

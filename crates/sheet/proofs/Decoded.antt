@@ -1,5 +1,5 @@
 -- The decoder gives back the sheet that bytes hold, so that they hold one at most.
-use Rattle.std.proofs.Common.{◌≡◌, ℕ, zero, suc, ◌+◌, ◌-◌, ◌*◌, ◌^◌, ◌<◌, ◌≤◌, Bool, true, false, cond, eqb, leb, List, [], ◌∷◌, ◌++◌, map, length, get_or, take, drop, ℤ, pos, negsuc, neg_ℤ, decimal, sym, refl, ap, ◌∙◌, subst, append_assoc, append-nil, arith, length-append}
+use Rattle.std.proofs.Common.{◌≡◌, ℕ, zero, suc, ◌+◌, ◌-◌, ◌*◌, ◌^◌, ◌<◌, true, false, eqb, leb, List, [], ◌∷◌, ◌++◌, map, length, drop, ℤ, pos, negsuc, neg_ℤ, decimal, sym, refl, ap, ◌∙◌, subst, append_assoc, arith, length-append}
 use lib.Signed.{mag}
 use Rattle.std.specs.Fmt.{signed_decimal}
 use Rattle.std.specs.List.{flat_map, AllByRecursion as All}
@@ -12,9 +12,8 @@ use Rattle.figures.specs.Figures.{read_on}
 use Rattle.figures.proofs.Steps.{AllDigits, own}
 use Rattle.sheet.proofs.Parts.{flat-stop, flat-piece, flat-heading}
 use Rattle.sheet.proofs.Moves.{together-append, together-values}
-use Rattle.sheet.specs.Sheet.{Sheet, heading_of, heading_line, name_line, piece_line, param_line, value_line, outcome_lines, body_lines, render, together, GoodHeading, GoodName, GoodParam, GoodValue, GoodOutcome, WellFormed, Holds}
+use Rattle.sheet.specs.Sheet.{Sheet, heading_of, heading_line, name_line, piece_line, param_line, value_line, outcome_lines, body_lines, render, together, GoodName, GoodParam, GoodValue, GoodOutcome, Holds}
 use Rattle.sheet.specs.Decode.{figure_at, number_at, cut, piece_at, value_at, values_at, names_at, params_at, outcomes_at, first_at, second_at, third_at, below_params, below_names, below_heading, sheet_at}
-use Rattle.sheet.specs.declared.lines.Heading.{Heading}
 
 digits-at : (ds r : List ℕ) (n stop : ℕ) → AllDigits ds → stop < 48 → figure_at n (ds ++ (stop ∷ r)) ≡ (read_on n ds, r)
 digits-at [] r n stop d low = let e : leb 48 stop ≡ false = lt-leb 48 stop low in rw e refl

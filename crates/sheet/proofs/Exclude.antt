@@ -1,9 +1,9 @@
 -- Acceptance and refusal, and two refusals, exclude one another.
-use Rattle.std.proofs.Common.{◌≡◌, ℕ, ◌+◌, ◌-◌, ◌<◌, ◌≤◌, List, [], ◌∷◌, ◌++◌, length, take, drop, sym, refl, ap, ◌∙◌, ⊎_elim, append_assoc, arith}
+use Rattle.std.proofs.Common.{◌≡◌, ℕ, ◌-◌, ◌<◌, ◌≤◌, List, ◌++◌, take, drop, ap, ◌∙◌, ⊎_elim, append_assoc, arith}
 use Rattle.std.proofs.lemmas.List.{take-append-drop, take-take}
 use Rattle.std.proofs.lemmas.Bool.{cases_order}
 use Rattle.sheet.proofs.Moves.{together-append}
-use Rattle.sheet.specs.Sheet.{Sheet, render, together, Holds, Begins, RefusedAt, Exclusive}
+use Rattle.sheet.specs.Sheet.{Sheet, render, together, Holds, Begins, Exclusive}
 
 cut : (n : ℕ) (ls : List (List ℕ)) (rest : List ℕ) → together ls ++ rest ≡ together (take n ls) ++ (together (drop n ls) ++ rest)
 cut n ls rest =

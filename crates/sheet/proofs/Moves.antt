@@ -1,15 +1,13 @@
 -- From the bytes that are left to the whole: one line read, or lines of a kind.
-use Rattle.std.proofs.Common.{◌≡◌, ℕ, zero, suc, ◌+◌, ◌-◌, ◌<◌, ◌≤◌, Bool, true, false, not, ◌||◌, eqb, ◌⊎◌, List, [], ◌∷◌, ◌++◌, map, length, take, drop, decimal, sym, refl, ap, ◌∙◌, subst, inl, inr, append_assoc, append-nil, arith, length-append, length-drop}
+use Rattle.std.proofs.Common.{◌≡◌, ℕ, ◌+◌, ◌<◌, ◌≤◌, Bool, true, false, not, ◌||◌, eqb, List, [], ◌∷◌, ◌++◌, map, length, take, drop, sym, refl, ap, ◌∙◌, subst, inl, inr, append_assoc, append-nil, arith, length-append, length-drop}
 use Rattle.std.specs.List.{flat_map, AllByRecursion as All}
 use Rattle.std.proofs.lemmas.List.{drop-drop, length_push, length-map}
 use Rattle.figures.specs.declared.Part.{Part}
 use Rattle.host.specs.Outcome.{Outcome, row, done, failed}
 use Rattle.values.specs.Value.{Value, null, long, double, text, blob}
-use Rattle.sheet.specs.Sheet.{heading_line, param_line, value_line, end_line, row_line, outcome_lines, body_lines, together, names_column, GoodParam, GoodValue, GoodOutcome, GoodCode, Suits}
-use Rattle.sheet.specs.Lines.{Reads, Lacks, Moved, Stuck, Block, Breaks, part_of, PartWithin, cell_of, CellWithin, head_line, GoodHead, Outcomes, OutcomesBreak, Ended}
+use Rattle.sheet.specs.Sheet.{heading_line, param_line, value_line, outcome_lines, together, names_column, GoodParam, GoodValue, GoodOutcome, Suits}
+use Rattle.sheet.specs.Lines.{Reads, Lacks, Moved, Stuck, Block, Breaks, part_of, PartWithin, head_line, GoodHead, Outcomes, OutcomesBreak, Ended}
 use Rattle.sheet.specs.declared.lines.Heading.{Heading}
-use Rattle.sheet.specs.declared.lines.Cell.{Cell}
-use Rattle.sheet.specs.declared.lines.Cell.TheVariants.{Null, Long, Double, Text, Blob}
 use Rattle.sheet.specs.declared.lines.Head.{Head}
 use Rattle.sheet.specs.declared.lines.Head.TheVariants.{Row, Done, Failed, End}
 

@@ -1,15 +1,14 @@
 -- From the figures and pieces of a line to the line.
-use Rattle.std.proofs.Common.{◌≡◌, ℕ, suc, ◌+◌, ◌-◌, ◌*◌, ◌^◌, ◌<◌, ◌≤◌, Bool, List, [], ◌∷◌, ◌++◌, length, get_or, take, drop, ℤ, decimal, sym, refl, ap, ◌∙◌, subst, append_assoc, arith, length-append, length-drop}
+use Rattle.std.proofs.Common.{◌≡◌, ℕ, ◌+◌, ◌<◌, ◌≤◌, List, [], ◌∷◌, ◌++◌, length, get_or, take, drop, ℤ, decimal, sym, ap, ◌∙◌, append_assoc, arith, length-append, length-drop}
 use Rattle.std.specs.Int.{IsInRange}
 use Rattle.std.specs.Fmt.{signed_decimal}
 use Rattle.std.proofs.lemmas.List.{drop-drop}
-use Rattle.values.specs.Value.{Value, null, long, double, text, blob}
+use Rattle.values.specs.Value.{null, long, double, text, blob}
 use Rattle.figures.specs.Figures.{Figured, NoFigure, Pieced, NoPiece, Numbered, NoNumber}
-use Rattle.figures.proofs.Steps.{figure-free, piece-free, pieced-is, number-free}
-use Rattle.sheet.specs.Sheet.{heading_line, name_line, piece_line, param_line, value_line, failed_line, GoodHeading, GoodName, GoodParam, Numeric, GoodValue, GoodCode}
-use Rattle.sheet.specs.Lines.{Reads, Lacks, head_line, PlainHead, SuitsHead, GoodHead, NoDouble, NoCode}
+use Rattle.figures.proofs.Steps.{figure-free, pieced-is}
+use Rattle.sheet.specs.Sheet.{heading_line, name_line, piece_line, param_line, value_line, GoodHeading, GoodName, GoodParam, Numeric, GoodValue, GoodCode}
+use Rattle.sheet.specs.Lines.{Reads, Lacks, head_line, PlainHead, NoDouble, NoCode}
 use Rattle.sheet.specs.declared.lines.Heading.{Heading}
-use Rattle.sheet.specs.declared.lines.Head.{Head}
 use Rattle.sheet.specs.declared.lines.Head.TheVariants.{Row, Done, Failed, End}
 
 pub flat-stop : (ds r : List ℕ) → (ds ++ (10 ∷ [])) ++ r ≡ ds ++ (10 ∷ r)

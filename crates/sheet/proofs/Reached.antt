@@ -1,18 +1,16 @@
 -- From what the reader's methods say to acceptance and refusal.
-use Rattle.std.proofs.Common.{◌≡◌, ℕ, zero, suc, ◌+◌, ◌-◌, ◌^◌, ◌<◌, ◌≤◌, Bool, true, false, ◌||◌, ◌⊎◌, List, [], ◌∷◌, ◌++◌, map, length, get_or, take, drop, IsErrAnd, Ok, Err, Result, sym, refl, ap, ◌∙◌, subst, inl, inr, ⊎_elim, append_assoc, append-nil, arith, length-append, length-drop, MatchResult}
+use Rattle.std.proofs.Common.{◌≡◌, ℕ, ◌+◌, ◌-◌, ◌<◌, ◌≤◌, Bool, false, List, [], ◌∷◌, ◌++◌, map, length, drop, IsErrAnd, Ok, Err, Result, sym, refl, ap, ◌∙◌, subst, ⊎_elim, append_assoc, arith, length-append, length-drop, MatchResult}
 use Rattle.std.specs.List.{flat_map, AllByRecursion as All}
 use Rattle.std.proofs.lemmas.List.{length-map}
-use Rattle.std.proofs.lemmas.List.Prefix.{front_rest}
 use Rattle.values.specs.Value.{Value}
-use Rattle.host.specs.Outcome.{Outcome, row, done, failed}
-use Rattle.sheet.proofs.Runs.{Line, name, param, value, head, written, Left, left, Want, more, nothing, Fits, next, Runs, runs_append, heads, names-run, params-run, values-run, outcomes-run}
+use Rattle.sheet.proofs.Runs.{Line, name, param, value, head, written, Left, left, more, Fits, Runs, runs_append, heads, names-run, params-run, values-run, outcomes-run}
 use Rattle.sheet.proofs.Whole.{begin, refused, refused-first, joined-append, written-outcomes, together-map}
 use Rattle.sheet.proofs.Decoded.{sheet-at, render-bytes}
-use Rattle.sheet.specs.Sheet.{Sheet, heading_of, heading_line, name_line, param_line, value_line, row_line, outcome_lines, body_lines, render, together, GoodHeading, GoodName, GoodParam, GoodValue, GoodOutcome, Suits, names_column, WellFormed, Holds, RefusedAt}
+use Rattle.sheet.specs.Sheet.{Sheet, heading_of, heading_line, name_line, param_line, value_line, row_line, outcome_lines, render, together, GoodHeading, GoodName, GoodParam, GoodValue, GoodOutcome, Suits, names_column, WellFormed, Holds, RefusedAt}
 use Rattle.sheet.specs.Lines.{Lacks, Moved, Stuck, Block, Breaks, head_line, GoodHead, Outcomes, OutcomesBreak, Ended}
-use Rattle.sheet.specs.Places.{At, Accepted}
+use Rattle.sheet.specs.Places.{Accepted}
 use Rattle.sheet.specs.declared.lines.Heading.{Heading}
-use Rattle.sheet.specs.declared.lines.Head.TheVariants.{Row, Done, Failed, End}
+use Rattle.sheet.specs.declared.lines.Head.TheVariants.{Row}
 
 -- The heading and some lines were read; state l is reached at place p, where line n begins.
 record Reached (s : List ℕ) (h : Heading) (l : Left) (p n : ℕ) : Type 0 where

@@ -1,14 +1,14 @@
 -- The lines below the heading as an automaton: which line may come next.
 -- Two runs over the same bytes agree; every run is the front of some content's lines; every content runs to its end.
-use Rattle.std.proofs.Common.{◌≡◌, ℕ, zero, suc, ◌+◌, ◌-◌, ◌^◌, ◌<◌, ◌≤◌, Bool, true, false, not, ◌||◌, eqb, List, [], ◌∷◌, ◌++◌, map, length, get_or, take, drop, replicate, decimal, sym, refl, ap, ◌∙◌, subst, append_assoc, append-nil, arith}
+use Rattle.std.proofs.Common.{◌≡◌, ℕ, zero, suc, ◌-◌, ◌^◌, ◌<◌, ◌≤◌, Bool, true, false, not, ◌||◌, eqb, List, [], ◌∷◌, ◌++◌, map, length, get_or, take, replicate, decimal, sym, refl, ap, ◌∙◌, subst, append_assoc, arith}
 use Rattle.std.specs.Fmt.{signed_decimal}
 use Rattle.std.specs.List.{flat_map, AllByRecursion as All}
-use Rattle.std.proofs.lemmas.List.{nil_from_length, map-append, length-replicate}
+use Rattle.std.proofs.lemmas.List.{nil_from_length, length-replicate}
 use Rattle.values.specs.Value.{Value, null, long, double, text, blob}
 use Rattle.host.specs.Outcome.{Outcome, row, done, failed}
 use Rattle.figures.proofs.Steps.{figure-free, piece-free, number-free}
 use Rattle.sheet.proofs.Parts.{flat-stop, flat-piece, head-is}
-use Rattle.sheet.specs.Sheet.{name_line, piece_line, param_line, value_line, failed_line, outcome_lines, GoodName, GoodParam, GoodValue, GoodCode, GoodOutcome, names_column, Suits}
+use Rattle.sheet.specs.Sheet.{name_line, piece_line, param_line, value_line, GoodName, GoodParam, GoodValue, GoodOutcome, names_column, Suits}
 use Rattle.sheet.specs.Lines.{head_line, PlainHead, GoodHead}
 use Rattle.sheet.specs.declared.lines.Head.{Head}
 use Rattle.sheet.specs.declared.lines.Head.TheVariants.{Row, Done, Failed, End}

@@ -1,17 +1,16 @@
 -- What stands where is what is read there.
-use Rattle.std.proofs.Common.{◌≡◌, ℕ, zero, suc, ◌+◌, ◌-◌, ◌^◌, ◌<◌, ◌≤◌, Bool, true, false, List, [], ◌∷◌, ◌++◌, map, length, get_or, take, drop, Some, None, Option, sym, refl, ap, ◌∙◌, subst, append_assoc, arith, length-append, length-drop, Bor, MatchOption}
+use Rattle.std.proofs.Common.{◌≡◌, ℕ, ◌+◌, ◌<◌, ◌≤◌, false, List, [], ◌∷◌, ◌++◌, length, get_or, drop, Some, None, Option, sym, refl, ap, ◌∙◌, subst, append_assoc, arith, length-append, length-drop, Bor, MatchOption}
 use Rattle.std.specs.List.{flat_map, AllByRecursion as All}
 use Rattle.values.specs.Value.{Value, null}
 use Rattle.host.specs.Outcome.{Outcome, row, done, failed}
 use Rattle.sheet.proofs.Runs.{value-free, head-free, name_free}
 use Rattle.sheet.proofs.Moves.{value-long}
 use Rattle.sheet.proofs.Decoded.{row-bytes, body-long}
-use Rattle.sheet.specs.Sheet.{name_line, value_line, outcome_lines, body_lines, together, GoodName, GoodValue, GoodOutcome}
-use Rattle.sheet.specs.Lines.{Lacks, Moved, Stuck, Block, Breaks, head_line, PlainHead, SuitsHead, GoodHead}
+use Rattle.sheet.specs.Sheet.{name_line, value_line, body_lines, together, GoodName, GoodValue, GoodOutcome}
+use Rattle.sheet.specs.Lines.{Moved, Stuck, Block, Breaks, head_line, PlainHead, SuitsHead, GoodHead}
 use Rattle.sheet.specs.Places.{At, ByName, Plays}
 use Rattle.sheet.specs.declared.lines.Head.{Head}
 use Rattle.sheet.specs.declared.lines.Head.TheVariants as heads
-use Rattle.sheet.specs.declared.play.Played.{Played}
 use Rattle.sheet.specs.declared.play.Played.TheVariants as played
 
 -- A kind of line is read in one way.

@@ -1,17 +1,17 @@
 -- The rendering of a sheet by its lines, and what a line that cannot come says of the whole.
-use Rattle.std.proofs.Common.{◌≡◌, ℕ, zero, suc, ◌+◌, ◌-◌, ◌^◌, ◌<◌, ◌≤◌, Bool, true, false, List, [], ◌∷◌, ◌++◌, map, length, get_or, take, drop, decimal, sym, refl, ap, ◌∙◌, subst, ⊎_elim, append_assoc, append-nil, arith, length-append}
+use Rattle.std.proofs.Common.{◌≡◌, ℕ, suc, ◌+◌, ◌-◌, ◌^◌, ◌<◌, ◌≤◌, false, List, [], ◌∷◌, ◌++◌, map, length, take, decimal, sym, refl, ap, ◌∙◌, subst, ⊎_elim, append_assoc, arith, length-append}
 use Rattle.std.specs.List.{flat_map, AllByRecursion as All}
-use Rattle.std.proofs.lemmas.List.{map-append, length-map, take-map, take_at, take_all, length-take-le, nil_from_length}
+use Rattle.std.proofs.lemmas.List.{map-append, take-map, take_at, take_all, length-take-le, nil_from_length}
 use Rattle.std.proofs.lemmas.Bool.{cases_lt}
 use Rattle.values.specs.Value.{Value}
 use Rattle.host.specs.Outcome.{Outcome, row, done, failed}
 use Rattle.figures.proofs.Steps.{figure-free}
 use Rattle.sheet.proofs.Parts.{flat-heading}
-use Rattle.sheet.proofs.Runs.{Line, name, param, value, head, written, Left, left, Want, more, nothing, Fits, next, Runs, runs_append, runs-take, Followed, follow, heads, tail_lines, tail-runs, Content, content}
-use Rattle.sheet.specs.Sheet.{Sheet, heading_of, heading_line, name_line, param_line, value_line, outcome_lines, body_lines, render, together, GoodHeading, GoodName, GoodParam, GoodOutcome, Suits, names_column, WellFormed, Holds, Begins, RefusedAt}
+use Rattle.sheet.proofs.Runs.{Line, name, param, value, head, written, Left, left, Want, more, nothing, Fits, Runs, runs-take, follow, heads, tail_lines, tail-runs, content}
+use Rattle.sheet.specs.Sheet.{Sheet, heading_of, heading_line, name_line, param_line, value_line, outcome_lines, body_lines, render, together, GoodHeading, GoodParam, GoodOutcome, WellFormed, RefusedAt}
 use Rattle.sheet.specs.Lines.{Lacks}
 use Rattle.sheet.specs.declared.lines.Heading.{Heading}
-use Rattle.sheet.specs.declared.lines.Head.TheVariants.{Row, Done, Failed, End}
+use Rattle.sheet.specs.declared.lines.Head.TheVariants.{End}
 
 written-names : (ns : List (List ℕ)) → map name_line ns ≡ map written (map name ns)
 written-names [] = refl

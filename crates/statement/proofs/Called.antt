@@ -1,11 +1,10 @@
 -- The calls: what their tests decide, over plain values.
-use Rattle.std.proofs.Common.{◌≡◌, ℕ, zero, suc, ◌+◌, ◌-◌, ◌<◌, ◌≤◌, Bool, true, false, cond, not, ◌&&◌, eqb, ltb, leb, List, [], ◌∷◌, ◌++◌, length, take, drop, Some, None, Ok, Err, Option, Result, sym, refl, ap, ◌∙◌, ap₂, arith, eq-eqb, ne_eqb}
+use Rattle.std.proofs.Common.{◌≡◌, ℕ, ◌≤◌, Bool, true, false, cond, not, eqb, ltb, List, [], ◌∷◌, ◌++◌, length, Some, None, Ok, Err, Option, Result, sym, refl, ap, ◌∙◌, ap₂, arith, eq-eqb, ne_eqb}
 use Rattle.std.proofs.lemmas.Bool.{ltb-false}
 use Rattle.values.specs.Order.{first_of}
 use Rattle.host.specs.Meaning.{Meaning, reset_after, step_answer}
 use Rattle.host.specs.declared.Stepped.{Stepped}
 use Rattle.host.specs.declared.StepFault.{StepFault}
-use Rattle.statement.specs.declared.stmt.Lengths.{Lengths}
 use Rattle.statement.specs.declared.stmt.Executed.{Executed}
 use Rattle.binds.specs.declared.refusal.Refusal.{Refusal}
 use Rattle.binds.specs.declared.refusal.Refusal.TheVariants.{WrongState, RowHeld, Length, TooManyValues, Outside, StepsSpent}
@@ -15,7 +14,7 @@ use Rattle.statement.specs.State.{State, is_current, set_up_host, set_up}
 use Rattle.binds.specs.Cleared.{nulled, count_up}
 use Rattle.binds.specs.declared.collector.Span.{Span}
 use Rattle.statement.specs.declared.stmt.Binding.TheVariants.{AtRest}
-use Rattle.statement.specs.Calls.{test_answer, too_long, may_bind_tests, may_bind_answer, take_tests, tried_of, says_by, taken_by, leaves_by, bound_if, current_state, take_says, take_goes, take_leaves, bind_tests, bind_says, bind_goes, bind_leaves, current_tests, current_answer, execute_tests, stepped_says, stepped_state, returned_state, report_code, execute_says, execute_goes, execute_leaves, end_says, end_goes, end_leaves}
+use Rattle.statement.specs.Calls.{test_answer, too_long, may_bind_tests, may_bind_answer, tried_of, says_by, taken_by, leaves_by, bound_if, current_state, take_says, take_goes, take_leaves, bind_says, bind_goes, bind_leaves, current_tests, current_answer, execute_tests, stepped_says, stepped_state, returned_state, report_code, execute_says, execute_goes, execute_leaves, end_says, end_goes, end_leaves}
 use Rattle.binds.specs.Refusals.{room_short}
 
 never : {A : Type 0} → ◌≡◌ {A = ℕ} 0 1 → A

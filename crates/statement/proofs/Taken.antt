@@ -1,6 +1,5 @@
 -- Taking the values of a bind up: its three ways out, over plain values.
-use Rattle.std.proofs.Common.{◌≡◌, ℕ, zero, suc, ◌+◌, ◌-◌, ◌<◌, ◌≤◌, Bool, true, false, cond, ◌&&◌, ltb, leb, List, [], ◌∷◌, ◌++◌, length, take, drop, is_ok, Some, None, Ok, Err, Option, Result, sym, refl, ap, ◌∙◌, ap₂, arith, length-append, le-ltb, lt-ltb, le-leb, leb-false, leb-true}
-use borrow.Author.Tests.{lt-leb}
+use Rattle.std.proofs.Common.{◌≡◌, ℕ, suc, ◌+◌, ◌≤◌, Bool, true, false, ◌&&◌, ltb, leb, List, [], ◌∷◌, length, take, is_ok, Some, None, Ok, Err, Option, Result, sym, refl, ap, ◌∙◌, ap₂, arith, length-append, le-ltb, lt-ltb, leb-false, leb-true}
 use Rattle.std.proofs.lemmas.List.{take_all}
 use Rattle.host.specs.Meaning.{Meaning, reset_after}
 use Rattle.binds.specs.declared.collector.Span.{Span}
@@ -12,9 +11,9 @@ use Rattle.binds.specs.declared.taking.Unbindable.{Unbindable}
 use Rattle.binds.specs.Pairs.{Pair, borrowed_span, owned_span, all_fit, all_inside, one_if, lease_of, span_length, owned_count, room_bytes, leases_from, byte_slots}
 use Rattle.binds.specs.Leases.{leases_of, slots_of, zeroed}
 use Rattle.statement.specs.State.{State, state_of}
-use Rattle.binds.specs.Cleared.{nulled, cleared}
+use Rattle.binds.specs.Cleared.{nulled}
 use Rattle.binds.specs.Tried.{Tried, tried, one_why, one_after, go_on, bind_from, refusal_at, why_refusal, tried_answer}
-use Rattle.statement.specs.Calls.{undone, tried_of, says_by, taken_by, leaves_by, take_says, take_goes, take_leaves}
+use Rattle.statement.specs.Calls.{undone, tried_of, take_says, take_goes, take_leaves}
 use Rattle.binds.specs.Pairs.{written_room}
 use Rattle.binds.specs.Refusals.{room_short}
 

@@ -1,13 +1,11 @@
 -- What each call answers, and what the statement and the room are afterwards.
-use Rattle.std.specs.Prelude.{ℕ, ◌+◌, Bool, true, false, cond, not, ◌&&◌, ◌||◌, List, [], ◌∷◌, ◌++◌, length, take, Some, None, Ok, Err, Option, Result, ◌==◌, nat_lt}
+use Rattle.std.specs.Prelude.{ℕ, ◌+◌, Bool, not, ◌&&◌, ◌||◌, List, [], ◌∷◌, ◌++◌, length, take, Some, None, Ok, Err, Option, Result, ◌==◌, nat_lt}
 use Rattle.values.specs.Order.{first_of}
 use Rattle.host.specs.Meaning.{Meaning, step_answer, step_after}
 use Rattle.host.specs.declared.Stepped.{Stepped}
 use Rattle.host.specs.declared.StepFault.{StepFault}
-use Rattle.binds.specs.declared.collector.Span.{Span}
 use Rattle.statement.specs.declared.stmt.Binding.TheVariants.{AtRest, Unstepped}
 use Rattle.statement.specs.declared.stmt.Lengths.{Lengths}
-use Rattle.statement.specs.declared.stmt.Report.{Report}
 use Rattle.statement.specs.declared.stmt.Executed.{Executed}
 use Rattle.binds.specs.declared.refusal.Refusal.{Refusal}
 use Rattle.binds.specs.declared.refusal.Refusal.TheVariants.{WrongState, Length, RowHeld, TooManyValues, Outside, RoomShort, StepFailed, StepsSpent}

@@ -1,5 +1,5 @@
 -- What a statement stands for.
-use Rattle.std.specs.Prelude.{ℕ, Bool, true, false, List, [], ◌∷◌, Some, None, Option}
+use Rattle.std.specs.Prelude.{ℕ, Bool, true, false, List, [], None, Option}
 use Rattle.host.specs.Meaning.{Meaning}
 use Rattle.binds.specs.declared.collector.Span.{Span}
 use Rattle.statement.specs.declared.stmt.Binding.{Binding}

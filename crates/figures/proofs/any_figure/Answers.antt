@@ -1,4 +1,4 @@
-use Rattle.std.proofs.Common.{◌≡◌, ◌-◌, ◌^◌, ⊎_elim, arith, rules}
+use Rattle.std.proofs.Common.{◌-◌, ◌^◌, ⊎_elim, arith}
 use Rattle.figures.specs.Figures.{stop_byte}
 use Rattle.figures.proofs.Steps.{seen, figured, stop-low}
 use Rattle.figures.proofs.any_figure.Goals as goal

@@ -1,4 +1,4 @@
-use Rattle.std.proofs.Common.{◌≡◌, ℕ, ◌+◌, Bool, List, take, sym, ap, ◌∙◌, subst, rules}
+use Rattle.std.proofs.Common.{◌≡◌, ℕ, ◌+◌, List, take, sym, ◌∙◌, subst, rules}
 use Rattle.sheet.specs.Sheet.{name_line, param_line, GoodName, GoodParam, names_column, RefusedAt}
 use Rattle.sheet.specs.Lines.{Block, Breaks, OutcomesBreak, Ended}
 use Rattle.sheet.specs.Places.{Accepted}

@@ -1,5 +1,4 @@
-use Rattle.std.proofs.Common.{◌≡◌, sym, refl, ap, ◌∙◌, arith}
-use Rattle.binds.specs.Cleared.{nulled, count_up}
+use Rattle.std.proofs.Common.{arith}
 use Rattle.binds.proofs.Steps.{every-starts, every-step, every-end}
 use Rattle.binds.proofs.returning.null_every.Goals as goal
 

@@ -1,4 +1,4 @@
-use Rattle.std.proofs.Common.{◌≡◌, ◌+◌, length, drop, sym, refl, ap, ◌∙◌, subst, arith, rules}
+use Rattle.std.proofs.Common.{◌+◌, length, drop, refl, ap, ◌∙◌, arith}
 use Rattle.values.specs.declared.SqliteType.TheVariants.{Binary}
 use Rattle.binds.specs.declared.collector.SqliteBindValue.TheVariants.{Null}
 use Rattle.binds.specs.Leases.{slots_of}

@@ -1,9 +1,9 @@
-use Rattle.std.proofs.Common.{◌≡◌, Bool, true, false, is_ok, sym, refl, ap, ◌∙◌, subst, arith, rules}
+use Rattle.std.proofs.Common.{◌≡◌, Bool, true, false, is_ok, sym, ap, ◌∙◌, arith}
 use Rattle.std.proofs.lemmas.Result.{err_from_is_err_and}
 use Rattle.values.specs.declared.SqliteType.TheVariants.{Binary}
 use Rattle.binds.specs.declared.collector.SqliteBindValue.TheVariants.{Null}
 use Rattle.binds.specs.Leases.{leases_of}
-use Rattle.binds.proofs.Collect.{bytes-head, leases-end, bytes-none, Entering, entering, full-says, whole_says, never}
+use Rattle.binds.proofs.Collect.{leases-end, bytes-none, entering, full-says, whole_says, never}
 use Rattle.binds.proofs.taking.enter_leases.Goals as goal
 
 pub returns-in_err-enter : goal.returns-in_err-enter

@@ -1,5 +1,3 @@
-use Rattle.std.proofs.Common.{◌≡◌, sym, refl, ap, ◌∙◌}
-use Rattle.host.specs.declared.Slot.TheVariants as slot
 use Rattle.binds.proofs.Values.{text-slot}
 use Rattle.binds.proofs.taking.text_value.Goals as goal
 

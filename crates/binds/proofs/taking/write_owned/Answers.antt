@@ -1,7 +1,7 @@
-use Rattle.std.proofs.Common.{◌≡◌, ℕ, ◌+◌, List, ◌++◌, length, take, drop, sym, ap, ◌∙◌, subst, arith, rules}
+use Rattle.std.proofs.Common.{length, ap, ◌∙◌, arith}
 use Rattle.values.specs.declared.SqliteType.TheVariants.{Binary}
 use Rattle.binds.specs.declared.collector.SqliteBindValue.TheVariants.{Null}
-use Rattle.binds.specs.Pairs.{owned_span, span_fits, span_length, owned_bytes}
+use Rattle.binds.specs.Pairs.{owned_span, span_fits, span_length}
 use Rattle.binds.proofs.Collect.{fit-head, bytes-head, room-turn, room-end}
 use Rattle.binds.proofs.taking.write_owned.Goals as goal
 

@@ -1,4 +1,4 @@
-use Rattle.std.proofs.Common.{◌≡◌, arith, w32, w64, SFits, rules}
+use Rattle.std.proofs.Common.{arith, w32, w64, SFits, rules}
 use Rattle.std.proofs.lemmas.Int.{to_z-of_z}
 use Rattle.calls.specs.declared.items.Ownership.TheVariants.{Borrowed, Owned}
 use Rattle.calls.proofs.Lines.{int-none, int-reads, long-none, long-reads, double-none, double-reads, piece-none, text-reads, bytes-reads}

@@ -1,4 +1,4 @@
-use Rattle.std.proofs.Common.{◌≡◌, ⊎_elim, arith}
+use Rattle.std.proofs.Common.{⊎_elim, arith}
 use Rattle.figures.specs.Figures.{stop_byte}
 use Rattle.figures.proofs.Steps.{stop-low}
 use Rattle.calls.proofs.Lines.{type-other, type-low}

@@ -1,4 +1,4 @@
-use Rattle.std.proofs.Common.{◌≡◌, w64, SFits, rules}
+use Rattle.std.proofs.Common.{w64, SFits, rules}
 use Rattle.std.proofs.lemmas.Int.{to_z-of_z}
 use Rattle.std.proofs.lemmas.Bool.{false≢true}
 use Rattle.calls.proofs.Lines.{small-other}

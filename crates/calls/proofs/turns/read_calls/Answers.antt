@@ -1,4 +1,4 @@
-use Rattle.std.proofs.Common.{◌≡◌, true, false, drop, Some, vec_items, refl, ◌∙◌, subst, arith, rules}
+use Rattle.std.proofs.Common.{true, false, drop, Some, vec_items, refl, ◌∙◌, subst, arith, rules}
 use Rattle.runs.specs.declared.turns.Turn.{Turn}
 use Rattle.sheet.specs.Lines.{Lacks}
 use Rattle.calls.specs.Calls.{call_lines, GoodCall, CallsRead}

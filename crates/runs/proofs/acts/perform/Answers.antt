@@ -1,4 +1,4 @@
-use Rattle.std.proofs.Common.{◌≡◌, vec_items, sym, refl, ap, ◌∙◌}
+use Rattle.std.proofs.Common.{vec_items, sym, ap, ◌∙◌}
 use Rattle.statement.specs.State.{state_of}
 use Rattle.runs.specs.Turns.{desk_of, kept_text}
 use Rattle.runs.proofs.Turned.{turn-parts, kept_same, fresh-same}

@@ -1,7 +1,7 @@
-use Rattle.std.proofs.Common.{◌≡◌, ◌+◌, ◌∷◌, ◌++◌, length, vec_items, vec_len, sym, refl, ap, ◌∙◌, ap₂, arith, rules}
+use Rattle.std.proofs.Common.{◌≡◌, ◌∷◌, ◌++◌, length, vec_items, refl, ap, ◌∙◌, ap₂, arith, rules}
 use Rattle.std.specs.Vec.Iter.{into_iter_items}
 use Rattle.statement.specs.State.{state_of}
-use Rattle.runs.specs.Turns.{desk_of, starting, after_all, answers_to, Answers}
+use Rattle.runs.specs.Turns.{desk_of, after_all, answers_to, Answers}
 use Rattle.runs.proofs.Turned.{answers-turn, after_turn, answers-done, after-done, starts, fewer}
 use Rattle.runs.proofs.Laws.{kept_run, steps-law, buffers-law, copies-law}
 use Rattle.runs.proofs.acts.perform_all.Goals as goal

@@ -1,7 +1,7 @@
 use Rattle.std.proofs.Common.{◌≡◌, ◌+◌, ◌≤◌, ◌++◌, length, vec_items, vec_len, vec_capacity}
 use Rattle.std.specs.Vec.Iter.{into_iter_items}
 use Rattle.statement.specs.State.{state_of}
-use Rattle.runs.specs.Turns.{desk_of, starting, after_all, answers_to}
+use Rattle.runs.specs.Turns.{desk_of, after_all, answers_to}
 use Rattle.runs.proofs.acts.perform_all.Given as goal
 
 abbrev pub invariant-loop-turn : goal.invariant-loop-turn

@@ -1,4 +1,4 @@
-use Rattle.std.proofs.Common.{◌≡◌, ◌<◌, length, refl, arith}
+use Rattle.std.proofs.Common.{◌<◌, length, refl, arith}
 use Rattle.sheet.proofs.Standing.{by_name}
 use Rattle.sheet.proofs.CheckedSheet.column_name.Goals as goal
 

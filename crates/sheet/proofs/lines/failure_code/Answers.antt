@@ -1,4 +1,3 @@
-use Rattle.std.proofs.Common.{◌≡◌}
 use Rattle.std.proofs.lemmas.Bool.{false≢true}
 use Rattle.sheet.proofs.Parts.{code_other}
 use Rattle.sheet.proofs.lines.failure_code.Goals as goal

@@ -1,4 +1,4 @@
-use Rattle.std.proofs.Common.{◌≡◌, length, drop, refl, ap, arith}
+use Rattle.std.proofs.Common.{length, drop, refl, ap, arith}
 use Rattle.std.proofs.lemmas.List.{take_rest}
 use Rattle.figures.specs.Figures.{Figured}
 use Rattle.sheet.specs.Sheet.{GoodCode}

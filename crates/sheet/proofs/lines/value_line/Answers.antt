@@ -1,4 +1,4 @@
-use Rattle.std.proofs.Common.{◌≡◌, ◌-◌, ◌^◌, length, drop, refl, ap, ◌∙◌, arith, length-drop, w64, SFits, rules}
+use Rattle.std.proofs.Common.{◌-◌, ◌^◌, length, drop, refl, ap, arith, length-drop, w64, SFits, rules}
 use Rattle.std.proofs.lemmas.Int.{to_z-of_z}
 use Rattle.std.proofs.lemmas.List.{take_rest}
 use Rattle.figures.specs.Figures.{Figured, Pieced, NoPiece, Numbered, NoNumber}

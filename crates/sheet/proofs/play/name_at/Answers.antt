@@ -1,4 +1,4 @@
-use Rattle.std.proofs.Common.{◌≡◌, ℕ, ◌+◌, ◌-◌, ◌≤◌, List, length, take, drop, sym, ap, ◌∙◌, subst, arith}
+use Rattle.std.proofs.Common.{◌≡◌, ℕ, ◌+◌, ◌-◌, List, take, drop, ap, ◌∙◌, subst, arith}
 use Rattle.sheet.specs.Sheet.{name_line, GoodName}
 use Rattle.sheet.specs.Lines.{Moved, Stuck, Block, Breaks, part_of, PartWithin}
 use Rattle.sheet.proofs.Standing.{both, names-within, no-names-break, next-name, no-next-name}

@@ -1,9 +1,8 @@
-use Rattle.std.proofs.Common.{◌≡◌, ℕ, ◌≤◌, false, List, length, sym, ◌∙◌, subst, arith}
+use Rattle.std.proofs.Common.{ℕ, ◌≤◌, false, List, length, sym, ◌∙◌, subst, arith}
 use Rattle.sheet.specs.Sheet.{value_line, GoodValue}
 use Rattle.sheet.specs.Lines.{Moved, Stuck, Block, Breaks, head_line, GoodHead}
 use Rattle.sheet.specs.Places.{Plays}
 use Rattle.sheet.specs.declared.lines.Head.{Head}
-use Rattle.sheet.specs.declared.lines.Head.TheVariants as heads
 use Rattle.sheet.specs.declared.play.Played.TheVariants as played
 use Rattle.sheet.proofs.Standing.{both, at-within, play-none, plays-done, plays-failed, plays-end, plays-row, plays-short}
 use Rattle.sheet.proofs.play.next_outcome.Goals as goal

@@ -1,4 +1,4 @@
-use Rattle.std.proofs.Common.{◌≡◌, ℕ, ◌≤◌, List, length, sym, ap, ◌∙◌, subst, arith}
+use Rattle.std.proofs.Common.{ℕ, List, ◌∙◌, subst, arith}
 use Rattle.sheet.specs.Sheet.{value_line, GoodValue}
 use Rattle.sheet.specs.Lines.{Moved, Stuck, Block, Breaks, cell_of, CellWithin}
 use Rattle.sheet.proofs.Standing.{both, values-within, no-values-break, next-value, no-next-value}

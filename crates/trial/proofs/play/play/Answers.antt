@@ -1,4 +1,4 @@
-use Rattle.std.proofs.Common.{◌≡◌, ◌≤◌, length, ap, arith, length-take, rules}
+use Rattle.std.proofs.Common.{length, ap, arith, length-take}
 use Rattle.trial.proofs.play.play.Goals as goal
 
 pub slice_bounds-read_calls-count : goal.slice_bounds-read_calls-count

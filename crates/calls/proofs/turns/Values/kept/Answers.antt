@@ -1,4 +1,4 @@
-use Rattle.std.proofs.Common.{◌≡◌, vec_items}
+use Rattle.std.proofs.Common.{vec_items}
 use Rattle.sheet.specs.Lines.{part_of}
 use Rattle.calls.specs.Binds.{bundle_of}
 use Rattle.calls.proofs.Taking.{kept-borrowed, kept-owned}

@@ -1,4 +1,4 @@
-use Rattle.std.proofs.Common.{◌≡◌, vec_items, ap, rules}
+use Rattle.std.proofs.Common.{vec_items, ap, rules}
 use Rattle.sheet.specs.Lines.{Lacks}
 use Rattle.calls.specs.Items.{item_line, entry_of}
 use Rattle.calls.specs.Binds.{GoodNext, Because, bundle_of}

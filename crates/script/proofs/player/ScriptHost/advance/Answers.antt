@@ -1,4 +1,4 @@
-use Rattle.std.proofs.Common.{◌≡◌, drop, arith}
+use Rattle.std.proofs.Common.{drop, arith}
 use Rattle.sheet.specs.Decode.{sheet_at}
 use Rattle.script.proofs.Hosted.{Here, at_here, moves-row, moves-done, moves-failed, failed-fits, starts-over}
 use Rattle.script.proofs.player.ScriptHost.advance.Goals as goal

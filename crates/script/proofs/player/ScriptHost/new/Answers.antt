@@ -1,4 +1,4 @@
-use Rattle.std.proofs.Common.{◌≡◌, false, List, None, refl, ap}
+use Rattle.std.proofs.Common.{false, List, None, refl, ap}
 use Rattle.host.specs.declared.Slot.{Slot}
 use Rattle.host.specs.declared.Slot.TheVariants as slot
 use Rattle.sheet.specs.Decode.{sheet_at}

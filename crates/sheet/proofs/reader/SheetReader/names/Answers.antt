@@ -1,6 +1,5 @@
-use Rattle.std.proofs.Common.{◌≡◌, sym, refl, ap, ◌∙◌, subst, arith, rules}
+use Rattle.std.proofs.Common.{◌≡◌, ◌∙◌, arith, rules}
 use Rattle.sheet.specs.Sheet.{name_line, GoodName}
-use Rattle.sheet.specs.Lines.{part_of}
 use Rattle.sheet.proofs.Moves.{walked_none, walked_more, walked-breaks, walked_all}
 use Rattle.sheet.proofs.reader.SheetReader.names.Goals as goal
 

@@ -1,7 +1,7 @@
-use Rattle.std.proofs.Common.{◌≡◌, ◌∙◌, subst, ⊎_elim, rules}
+use Rattle.std.proofs.Common.{◌∙◌, subst, ⊎_elim, rules}
 use Rattle.sheet.specs.Lines.{Moved, head_line, GoodHead}
 use Rattle.sheet.specs.declared.lines.Head.{Head}
-use Rattle.sheet.specs.declared.lines.Head.TheVariants.{Row, Done, Failed, End}
+use Rattle.sheet.specs.declared.lines.Head.TheVariants.{Row, End}
 use Rattle.sheet.proofs.Moves.{going-none, going_done, going-failed, going-row, going-ends, going-stuck, going-short}
 use Rattle.sheet.proofs.reader.SheetReader.outcomes.Goals as goal
 

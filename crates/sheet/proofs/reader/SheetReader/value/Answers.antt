@@ -1,7 +1,6 @@
-use Rattle.std.proofs.Common.{drop, sym, refl, ap, ◌∙◌, subst}
+use Rattle.std.proofs.Common.{sym, refl, ap, ◌∙◌, subst}
 use Rattle.sheet.specs.Sheet.{value_line, GoodValue}
 use Rattle.sheet.specs.Lines.{Reads, cell_of, CellWithin}
-use Rattle.sheet.specs.declared.lines.Cell.{Cell}
 use Rattle.sheet.proofs.Moves.{value-long, passes, moved, stuck}
 use Rattle.sheet.proofs.reader.SheetReader.value.Goals as goal
 

@@ -1,4 +1,4 @@
-use Rattle.std.proofs.Common.{◌≡◌, length, drop, sym, refl, ap, ◌∙◌, subst, arith, length-drop}
+use Rattle.std.proofs.Common.{drop, sym, refl, ap, ◌∙◌, subst, arith, length-drop}
 use Rattle.values.specs.Value.{text, blob}
 use Rattle.sheet.specs.Lines.{PartWithin, cell_of, CellWithin}
 use Rattle.sheet.specs.declared.lines.Cell.{Cell}

@@ -1,5 +1,4 @@
-use Rattle.std.proofs.Common.{arith, rules}
-use Rattle.std.proofs.lemmas.Bool.Decides.{nat_tests}
+use Rattle.std.proofs.Common.{rules}
 use Rattle.statement.specs.Calls.{current_answer}
 use Rattle.statement.proofs.stmt.Statement.may_go_on.Goals as goal
 

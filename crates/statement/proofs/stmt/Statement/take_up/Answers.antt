@@ -1,8 +1,8 @@
-use Rattle.std.proofs.Common.{◌≡◌, length, sym, refl, ap, ◌∙◌, arith, rules}
+use Rattle.std.proofs.Common.{◌≡◌, length, refl, ap, ◌∙◌}
 use Rattle.std.proofs.lemmas.Result.{err_from_is_err_and}
 use Rattle.binds.specs.Leases.{leases_of}
 use Rattle.statement.specs.State.{state_of}
-use Rattle.statement.proofs.Taken.{inside-parts, is-short, is_wide, short-says, short-goes, short-leaves, refused_says, refused-goes, refused-leaves, taken-says, taken-goes, taken-leaves}
+use Rattle.statement.proofs.Taken.{is-short, is_wide, short-says, short-goes, short-leaves, refused_says, refused-goes, refused-leaves, taken-says, taken-goes, taken-leaves}
 use Rattle.statement.proofs.stmt.Statement.take_up.Goals as goal
 
 pub returns-in_err-enter_leases : goal.returns-in_err-enter_leases

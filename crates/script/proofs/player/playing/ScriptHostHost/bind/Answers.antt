@@ -1,11 +1,11 @@
-use Rattle.std.proofs.Common.{◌≡◌, ℕ, ◌-◌, ◌<◌, List, take, set, Some, None, Option, sym, refl, ap, ◌∙◌, subst, arith}
+use Rattle.std.proofs.Common.{◌≡◌, ◌-◌, ◌<◌, take, set, Some, None, Option, sym, ap, ◌∙◌, subst, arith}
 use lib.Seq.{take-set-lt}
 use Rattle.host.specs.Meaning.{bind_fault, bind_answer, bind_after, fault_answer, bind_code, slots_after}
 use Rattle.host.specs.Slots.{slot_of}
 use Rattle.host.specs.declared.Slot.{Slot}
 use Rattle.host.specs.declared.Slot.TheVariants as slot
 use Rattle.host.specs.declared.BindFault.{BindFault}
-use Rattle.host.specs.declared.BindFault.TheVariants.{Misuse, Range, TooBig}
+use Rattle.host.specs.declared.BindFault.TheVariants.{TooBig}
 use Rattle.sheet.specs.Decode.{sheet_at}
 use Rattle.script.specs.Program.{row_at, Bindable}
 use Rattle.script.specs.Scripted.{meaning_of}

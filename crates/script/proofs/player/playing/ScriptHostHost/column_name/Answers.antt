@@ -1,4 +1,4 @@
-use Rattle.std.proofs.Common.{◌≡◌, ◌+◌, ◌<◌, length, drop, refl, arith}
+use Rattle.std.proofs.Common.{◌+◌, ◌<◌, length, drop, refl, arith}
 use Rattle.std.specs.List.{flat_map}
 use Rattle.sheet.specs.Sheet.{name_line}
 use Rattle.sheet.specs.Decode.{sheet_at}

@@ -1,8 +1,7 @@
-use Rattle.std.proofs.Common.{◌≡◌, take, drop, sym, refl, ap, ◌∙◌}
+use Rattle.std.proofs.Common.{◌≡◌, take, drop, sym, ap, ◌∙◌}
 use Rattle.host.specs.Meaning.{ran, step_answer, step_after, outcome_answer}
 use Rattle.sheet.specs.Decode.{sheet_at}
 use Rattle.script.specs.Program.{gives, outcome_of}
-use Rattle.script.specs.declared.moves.Move.{Move}
 use Rattle.script.specs.declared.moves.Move.TheVariants.{Row, Done, Failed}
 use Rattle.script.proofs.Hosted.{same-stepped}
 use Rattle.script.proofs.player.playing.ScriptHostHost.step.Goals as goal

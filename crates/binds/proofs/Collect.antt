@@ -16,9 +16,9 @@ pub entered : (ls : List Span) (n used : ℕ) (o : Option Span) (s : Span) → n
 entered ls n used o s h e = rw e (take_more_set ls n (record { start = used; len = s.len }) h)
 
 -- the first of what is left, and what is left then
-pub fit-head : (n : ℕ) (f : SqliteBindValue → Option Span) (ps : List Pair) (i : ℕ) (d : Pair) → i < length ps → all_fit n f (drop i ps) ≡ true → (span_fits n (f (get_or ps i d).1) ≡ true) × (all_fit n f (drop (i + 1) ps) ≡ true)
+pub fit_head : (n : ℕ) (f : SqliteBindValue → Option Span) (ps : List Pair) (i : ℕ) (d : Pair) → i < length ps → all_fit n f (drop i ps) ≡ true → (span_fits n (f (get_or ps i d).1) ≡ true) × (all_fit n f (drop (i + 1) ps) ≡ true)
 unfolding all_fit
-fit-head n f ps i d h e =
+fit_head n f ps i d h e =
     let a : all_fit n f (drop i ps) ≡ (span_fits n (f (get_or ps i d).1) && all_fit n f (drop (i + 1) ps)) = at_drop_more (all_fit n f) ps i d h in
     both (span_fits n (f (get_or ps i d).1)) (all_fit n f (drop (i + 1) ps)) (sym a ∙ e)
   where
@@ -26,50 +26,50 @@ fit-head n f ps i d h e =
     both true b e = (refl, e)
     both false b e = let z : ◌≡◌ {A = ℕ} 0 1 = cc in absurd (omega arith)
 
-pub bytes-head : (ps : List Pair) (i : ℕ) (d : Pair) → i < length ps → room_bytes (drop i ps) ≡ span_length (owned_span (get_or ps i d).1) + room_bytes (drop (i + 1) ps)
+pub bytes_head : (ps : List Pair) (i : ℕ) (d : Pair) → i < length ps → room_bytes (drop i ps) ≡ span_length (owned_span (get_or ps i d).1) + room_bytes (drop (i + 1) ps)
 unfolding room_bytes
-bytes-head ps i d h = at_drop_more room_bytes ps i d h
+bytes_head ps i d h = at_drop_more room_bytes ps i d h
 
-pub bytes-none : (ps : List Pair) (i : ℕ) → length ps ≤ i → room_bytes (drop i ps) ≡ 0
+pub bytes_none : (ps : List Pair) (i : ℕ) → length ps ≤ i → room_bytes (drop i ps) ≡ 0
 unfolding room_bytes
-bytes-none ps i h = at_drop_all room_bytes ps i h
+bytes_none ps i h = at_drop_all room_bytes ps i h
 
 -- leases
-pub leases-step : (ls : List Span) (used : ℕ) (ps : List Pair) (i : ℕ) (d : Pair) → i < length ps → ls ++ leases_from used (drop i ps) ≡ leases_from 0 ps → (ls ++ lease_of used (owned_span (get_or ps i d).1)) ++ leases_from (used + span_length (owned_span (get_or ps i d).1)) (drop (i + 1) ps) ≡ leases_from 0 ps
+pub leases_step : (ls : List Span) (used : ℕ) (ps : List Pair) (i : ℕ) (d : Pair) → i < length ps → ls ++ leases_from used (drop i ps) ≡ leases_from 0 ps → (ls ++ lease_of used (owned_span (get_or ps i d).1)) ++ leases_from (used + span_length (owned_span (get_or ps i d).1)) (drop (i + 1) ps) ≡ leases_from 0 ps
 unfolding leases_from
-leases-step ls used ps i d h e =
+leases_step ls used ps i d h e =
     let o = owned_span (get_or ps i d).1 in
     let a : leases_from used (drop i ps) ≡ lease_of used o ++ leases_from (used + span_length o) (drop (i + 1) ps) = at_drop_more (leases_from used) ps i d h in
     append_assoc ls (lease_of used o) (leases_from (used + span_length o) (drop (i + 1) ps)) ∙ (ap (λ r. ls ++ r) (sym a) ∙ e)
 
-pub leases-end : (ls : List Span) (used : ℕ) (ps : List Pair) (i : ℕ) → length ps ≤ i → ls ++ leases_from used (drop i ps) ≡ leases_from 0 ps → ls ≡ leases_from 0 ps
+pub leases_end : (ls : List Span) (used : ℕ) (ps : List Pair) (i : ℕ) → length ps ≤ i → ls ++ leases_from used (drop i ps) ≡ leases_from 0 ps → ls ≡ leases_from 0 ps
 unfolding leases_from
-leases-end ls used ps i h e = sym (append-nil ls) ∙ (ap (λ r. ls ++ r) (sym (at_drop_all (leases_from used) ps i h)) ∙ e)
+leases_end ls used ps i h e = sym (append-nil ls) ∙ (ap (λ r. ls ++ r) (sym (at_drop_all (leases_from used) ps i h)) ∙ e)
 
-one-lease : (used : ℕ) (o : Option Span) → length (lease_of used o) ≤ 1
-one-lease used None = omega arith
-one-lease used (Some s) = omega arith
+one_lease : (used : ℕ) (o : Option Span) → length (lease_of used o) ≤ 1
+one_lease used None = omega arith
+one_lease used (Some s) = omega arith
 
-pub more-leases : (ls ls' : List Span) (used i : ℕ) (o : Option Span) → ls' ≡ ls ++ lease_of used o → length ls ≤ i → length ls' ≤ i + 1
-more-leases ls ls' used i o e h =
+pub more_leases : (ls ls' : List Span) (used i : ℕ) (o : Option Span) → ls' ≡ ls ++ lease_of used o → length ls ≤ i → length ls' ≤ i + 1
+more_leases ls ls' used i o e h =
     let a = ap length e ∙ length-append ls (lease_of used o) in
-    let b = one-lease used o in
+    let b = one_lease used o in
     omega arith
 
 -- slots that took bytes
-pub slots-push : (k : ℕ) (ps : List Pair) (p : Pair) → byte_slots k (ps ++ (p ∷ [])) ≡ byte_slots k ps ++ number_if (takes_bytes p.1) (k + length ps)
+pub slots_push : (k : ℕ) (ps : List Pair) (p : Pair) → byte_slots k (ps ++ (p ∷ [])) ≡ byte_slots k ps ++ number_if (takes_bytes p.1) (k + length ps)
 unfolding byte_slots
-slots-push k [] p = append-nil (number_if (takes_bytes p.1) k) ∙ ap (number_if (takes_bytes p.1)) (sym (add-zero k))
-slots-push k (q ∷ ps) p =
+slots_push k [] p = append-nil (number_if (takes_bytes p.1) k) ∙ ap (number_if (takes_bytes p.1)) (sym (add-zero k))
+slots_push k (q ∷ ps) p =
     let n : k + 1 + length ps ≡ k + suc (length ps) = omega arith in
-    ap (λ r. number_if (takes_bytes q.1) k ++ r) (slots-push (k + 1) ps p ∙ ap (λ m. byte_slots (k + 1) ps ++ number_if (takes_bytes p.1) m) n)
+    ap (λ r. number_if (takes_bytes q.1) k ++ r) (slots_push (k + 1) ps p ∙ ap (λ m. byte_slots (k + 1) ps ++ number_if (takes_bytes p.1) m) n)
     ∙ sym (append_assoc (number_if (takes_bytes q.1) k) (byte_slots (k + 1) ps) (number_if (takes_bytes p.1) (k + suc (length ps))))
 
-pub slots-step : (ps : List Pair) (i : ℕ) (d : Pair) (ss ss' : List ℕ) → i < length ps → ss ≡ byte_slots 1 (take i ps) → ss' ≡ ss ++ number_if (takes_bytes (get_or ps i d).1) (i + 1) → ss' ≡ byte_slots 1 (take (i + 1) ps)
-slots-step ps i d ss ss' h e f =
+pub slots_step : (ps : List Pair) (i : ℕ) (d : Pair) (ss ss' : List ℕ) → i < length ps → ss ≡ byte_slots 1 (take i ps) → ss' ≡ ss ++ number_if (takes_bytes (get_or ps i d).1) (i + 1) → ss' ≡ byte_slots 1 (take (i + 1) ps)
+slots_step ps i d ss ss' h e f =
     let l = length-take-le i ps (omega arith) in
     let n : i + 1 ≡ 1 + length (take i ps) = omega arith in
-    let p = slots-push 1 (take i ps) (get_or ps i d) in
+    let p = slots_push 1 (take i ps) (get_or ps i d) in
     let t = ap (byte_slots 1) (take_more ps i d h) in
     let g = ap (number_if (takes_bytes (get_or ps i d).1)) n in
     f ∙ (ap₂ ◌++◌ e g ∙ (sym p ∙ sym t))
@@ -78,26 +78,26 @@ one_number : (b : Bool) (i : ℕ) → length (number_if b i) ≤ 1
 one_number true i = omega arith
 one_number false i = omega arith
 
-pub slots-few : (k : ℕ) (ps : List Pair) → length (byte_slots k ps) ≤ length ps
+pub slots_few : (k : ℕ) (ps : List Pair) → length (byte_slots k ps) ≤ length ps
 unfolding byte_slots
-slots-few k [] = omega arith
-slots-few k (p ∷ ps) =
+slots_few k [] = omega arith
+slots_few k (p ∷ ps) =
     let a = length-append (number_if (takes_bytes p.1) k) (byte_slots (k + 1) ps) in
     let b = one_number (takes_bytes p.1) k in
-    let c = slots-few (k + 1) ps in
+    let c = slots_few (k + 1) ps in
     omega arith
 
-pub slots-room : (ps : List Pair) (i : ℕ) (ss : List ℕ) → i < length ps → length ps ≤ 32 → ss ≡ byte_slots 1 (take i ps) → length ss < 32
-slots-room ps i ss h f e =
+pub slots_room : (ps : List Pair) (i : ℕ) (ss : List ℕ) → i < length ps → length ps ≤ 32 → ss ≡ byte_slots 1 (take i ps) → length ss < 32
+slots_room ps i ss h f e =
     let a = ap length e in
-    let b = slots-few 1 (take i ps) in
+    let b = slots_few 1 (take i ps) in
     let l = length-take-le i ps (omega arith) in
     omega arith
 
 -- binding, value by value
-pub bind-more : (m m' : Meaning) (n at : ℕ) (ps : List Pair) (d : Pair) (t : Tried) (r : Result (Unit {0}) Unbindable) (u : Unit {0}) → n < length ps → bind_from m n at (drop n ps) ≡ t → r ≡ why_answer (one_why m (n + 1) at (get_or ps n d)) → r ≡ Ok u → m' ≡ one_after m (n + 1) at (get_or ps n d) → bind_from m' (n + 1) (at + span_length (owned_span (get_or ps n d).1)) (drop (n + 1) ps) ≡ t
+pub bind_more : (m m' : Meaning) (n at : ℕ) (ps : List Pair) (d : Pair) (t : Tried) (r : Result (Unit {0}) Unbindable) (u : Unit {0}) → n < length ps → bind_from m n at (drop n ps) ≡ t → r ≡ why_answer (one_why m (n + 1) at (get_or ps n d)) → r ≡ Ok u → m' ≡ one_after m (n + 1) at (get_or ps n d) → bind_from m' (n + 1) (at + span_length (owned_span (get_or ps n d).1)) (drop (n + 1) ps) ≡ t
 unfolding bind_from
-bind-more m m' n at ps d t r u h e a k f =
+bind_more m m' n at ps d t r u h e a k f =
     let p = get_or ps n d in
     let x : bind_from m n at (drop n ps) ≡ go_on (one_why m (n + 1) at p) (tried (one_after m (n + 1) at p) n (one_why m (n + 1) at p)) (bind_from (one_after m (n + 1) at p) (n + 1) (at + span_length (owned_span p.1)) (drop (n + 1) ps)) = at_drop_more (bind_from m n at) ps n d h in
     let w = none_of (one_why m (n + 1) at p) (sym k ∙ a) in
@@ -120,18 +120,18 @@ bind_stops m m' n at ps d t r w h e a k f =
     some_of None q = let z : ◌≡◌ {A = ℕ} 0 1 = cc in absurd (omega arith)
     some_of (Some v) q = let z : w ≡ v = cc in ap Some (sym z)
 
-pub bind-ends : (m : Meaning) (n at : ℕ) (ps : List Pair) (t : Tried) → length ps ≤ n → bind_from m n at (drop n ps) ≡ t → t ≡ tried m n None
+pub bind_ends : (m : Meaning) (n at : ℕ) (ps : List Pair) (t : Tried) → length ps ≤ n → bind_from m n at (drop n ps) ≡ t → t ≡ tried m n None
 unfolding bind_from
-bind-ends m n at ps t h e = sym e ∙ at_drop_all (bind_from m n at) ps n h
+bind_ends m n at ps t h e = sym e ∙ at_drop_all (bind_from m n at) ps n h
 
 -- the room
-pub room-step : (ps : List Pair) (given room room' room₀ : List ℕ) (i at : ℕ) (d : Pair) → i < length ps → at + span_length (owned_span (get_or ps i d).1) ≤ length room → length room ≡ length room₀ → span_fits (length given) (owned_span (get_or ps i d).1) ≡ true → take at room ++ owned_bytes given (drop i ps) ≡ owned_bytes given ps → drop at room ≡ drop at room₀ → room' ≡ take at room ++ (span_bytes given (owned_span (get_or ps i d).1) ++ drop (at + span_length (owned_span (get_or ps i d).1)) room) → (take (at + span_length (owned_span (get_or ps i d).1)) room' ++ owned_bytes given (drop (i + 1) ps) ≡ owned_bytes given ps) × (drop (at + span_length (owned_span (get_or ps i d).1)) room' ≡ drop (at + span_length (owned_span (get_or ps i d).1)) room₀)
+pub room_step : (ps : List Pair) (given room room' room₀ : List ℕ) (i at : ℕ) (d : Pair) → i < length ps → at + span_length (owned_span (get_or ps i d).1) ≤ length room → length room ≡ length room₀ → span_fits (length given) (owned_span (get_or ps i d).1) ≡ true → take at room ++ owned_bytes given (drop i ps) ≡ owned_bytes given ps → drop at room ≡ drop at room₀ → room' ≡ take at room ++ (span_bytes given (owned_span (get_or ps i d).1) ++ drop (at + span_length (owned_span (get_or ps i d).1)) room) → (take (at + span_length (owned_span (get_or ps i d).1)) room' ++ owned_bytes given (drop (i + 1) ps) ≡ owned_bytes given ps) × (drop (at + span_length (owned_span (get_or ps i d).1)) room' ≡ drop (at + span_length (owned_span (get_or ps i d).1)) room₀)
 unfolding owned_bytes
-room-step ps given room room' room₀ i at d h fit same inside e f g =
+room_step ps given room room' room₀ i at d h fit same inside e f g =
     let o = owned_span (get_or ps i d).1 in
     let n = span_length o in
     let b = span_bytes given o in
-    let lb = span-size o inside in
+    let lb = span_size o inside in
     let a : owned_bytes given (drop i ps) ≡ b ++ owned_bytes given (drop (i + 1) ps) = at_drop_more (owned_bytes given) ps i d h in
     let lt = length-take-le at room (omega arith) in
     let g' : room' ≡ (take at room ++ b) ++ drop (at + n) room = g ∙ sym (append_assoc (take at room) b (drop (at + n) room)) in
@@ -141,17 +141,17 @@ room-step ps given room room' room₀ i at d h fit same inside e f g =
     let dd : drop (at + n) room ≡ drop (at + n) room₀ = sym (drop-drop n at room) ∙ (ap (drop n) f ∙ drop-drop n at room₀) in
     (ap (λ z. z ++ owned_bytes given (drop (i + 1) ps)) t ∙ (append_assoc (take at room) b (owned_bytes given (drop (i + 1) ps)) ∙ (ap (λ z. take at room ++ z) (sym a) ∙ e)), r ∙ dd)
   where
-    span-size : (o : Option Span) → span_fits (length given) o ≡ true → length (span_bytes given o) ≡ span_length o
-    span-size None q = refl
-    span-size (Some s) q =
+    span_size : (o : Option Span) → span_fits (length given) o ≡ true → length (span_bytes given o) ≡ span_length o
+    span_size None q = refl
+    span_size (Some s) q =
         let l = leb-true (s.start + s.len) (length given) q in
         let x = length-drop s.start given in
         length-take-le s.len (drop s.start given) (omega arith)
 
-pub room-end : (ps : List Pair) (given room room₀ : List ℕ) (i at : ℕ) → length ps ≤ i → take at room ++ owned_bytes given (drop i ps) ≡ owned_bytes given ps → drop at room ≡ drop at room₀ → at + room_bytes (drop i ps) ≡ room_bytes ps → room ≡ written_room ps given room₀
+pub room_end : (ps : List Pair) (given room room₀ : List ℕ) (i at : ℕ) → length ps ≤ i → take at room ++ owned_bytes given (drop i ps) ≡ owned_bytes given ps → drop at room ≡ drop at room₀ → at + room_bytes (drop i ps) ≡ room_bytes ps → room ≡ written_room ps given room₀
 unfolding owned_bytes written_room
-room-end ps given room room₀ i at h e f g =
-    let z = bytes-none ps i h in
+room_end ps given room room₀ i at h e f g =
+    let z = bytes_none ps i h in
     let n : at ≡ room_bytes ps = omega arith in
     let a : take at room ≡ owned_bytes given ps = sym (append-nil (take at room)) ∙ (ap (λ r. take at room ++ r) (sym (at_drop_all (owned_bytes given) ps i h)) ∙ e) in
     sym (take-append-drop at room) ∙ ap₂ ◌++◌ a (f ∙ ap (λ k. drop k room₀) n)
@@ -159,8 +159,8 @@ room-end ps given room room₀ i at h e f g =
 pub wrote_none : (given room : List ℕ) (at : ℕ) (o : Option Span) → o ≡ None → room ≡ take at room ++ (span_bytes given o ++ drop (at + span_length o) room)
 wrote_none given room at o e = rw e (sym (take-append-drop at room) ∙ ap (λ k. take at room ++ drop k room) (sym (add-zero at)))
 
-pub wrote-some : (given room room' : List ℕ) (at : ℕ) (o : Option Span) (s : Span) → o ≡ Some s → span_fits (length given) o ≡ true → room' ≡ take at room ++ (take (s.start + s.len - s.start) (drop s.start given) ++ drop (at + length (take (s.start + s.len - s.start) (drop s.start given))) room) → room' ≡ take at room ++ (span_bytes given o ++ drop (at + span_length o) room)
-wrote-some given room room' at o s e i f =
+pub wrote_some : (given room room' : List ℕ) (at : ℕ) (o : Option Span) (s : Span) → o ≡ Some s → span_fits (length given) o ≡ true → room' ≡ take at room ++ (take (s.start + s.len - s.start) (drop s.start given) ++ drop (at + length (take (s.start + s.len - s.start) (drop s.start given))) room) → room' ≡ take at room ++ (span_bytes given o ++ drop (at + span_length o) room)
+wrote_some given room room' at o s e i f =
     let l = leb-true (s.start + s.len) (length given) (sym (ap (span_fits (length given)) e) ∙ i) in
     let x = length-drop s.start given in
     let n : s.start + s.len - s.start ≡ s.len = omega arith in
@@ -168,21 +168,21 @@ wrote-some given room room' at o s e i f =
     rw e (f ∙ (ap (λ k. take at room ++ (take k (drop s.start given) ++ drop (at + length (take k (drop s.start given))) room)) n ∙ ap (λ k. take at room ++ (take s.len (drop s.start given) ++ drop (at + k) room)) t))
 
 -- what binding answered, from how far it came
-pub stopped-parts : (t : Tried) (m : Meaning) (n : ℕ) (w : Unbindable) (r : Refusal) (ss : List ℕ) (ps : List Pair) → t ≡ tried m n (Some w) → r ≡ refusal_at n w → ss ≡ byte_slots 1 (take n ps) → (◌≡◌ {A = Result (Unit {0}) Refusal} (Err r) (tried_answer t)) × (m ≡ t.host) × (ss ≡ byte_slots 1 (take t.bound ps))
-stopped-parts t m n w r ss ps e f g = (rw e (ap Err f), rw e refl, rw e g)
+pub stopped_parts : (t : Tried) (m : Meaning) (n : ℕ) (w : Unbindable) (r : Refusal) (ss : List ℕ) (ps : List Pair) → t ≡ tried m n (Some w) → r ≡ refusal_at n w → ss ≡ byte_slots 1 (take n ps) → (◌≡◌ {A = Result (Unit {0}) Refusal} (Err r) (tried_answer t)) × (m ≡ t.host) × (ss ≡ byte_slots 1 (take t.bound ps))
+stopped_parts t m n w r ss ps e f g = (rw e (ap Err f), rw e refl, rw e g)
 
-pub ended-parts : (t : Tried) (m : Meaning) (n : ℕ) (ss : List ℕ) (ps : List Pair) → t ≡ tried m n None → ss ≡ byte_slots 1 (take n ps) → (◌≡◌ {A = Result (Unit {0}) Refusal} (Ok tt) (tried_answer t)) × (m ≡ t.host) × (ss ≡ byte_slots 1 (take t.bound ps))
-ended-parts t m n ss ps e g = (rw e refl, rw e refl, rw e g)
+pub ended_parts : (t : Tried) (m : Meaning) (n : ℕ) (ss : List ℕ) (ps : List Pair) → t ≡ tried m n None → ss ≡ byte_slots 1 (take n ps) → (◌≡◌ {A = Result (Unit {0}) Refusal} (Ok tt) (tried_answer t)) × (m ≡ t.host) × (ss ≡ byte_slots 1 (take t.bound ps))
+ended_parts t m n ss ps e g = (rw e refl, rw e refl, rw e g)
 
-pub no-slots : (ss : List ℕ) → ss ≡ [] → ss ≡ byte_slots 1 []
+pub no_slots : (ss : List ℕ) → ss ≡ [] → ss ≡ byte_slots 1 []
 unfolding byte_slots
-no-slots ss e = e
+no_slots ss e = e
 
 -- the same turn, with the owned stretch and its length as they were asked for
-pub room-turn : (ps : List Pair) (given room room' room₀ : List ℕ) (i at n : ℕ) (d : Pair) (o : Option Span) → i < length ps → at + span_length (owned_span (get_or ps i d).1) ≤ length room → length room ≡ length room₀ → span_fits (length given) (owned_span (get_or ps i d).1) ≡ true → take at room ++ owned_bytes given (drop i ps) ≡ owned_bytes given ps → drop at room ≡ drop at room₀ → o ≡ owned_span (get_or ps i d).1 → n ≡ span_length (owned_span (get_or ps i d).1) → room' ≡ take at room ++ (span_bytes given o ++ drop (at + span_length o) room) → (take (at + n) room' ++ owned_bytes given (drop (i + 1) ps) ≡ owned_bytes given ps) × (drop (at + n) room' ≡ drop (at + n) room₀)
-room-turn ps given room room' room₀ i at n d o h fit same inside e f eo en g =
+pub room_turn : (ps : List Pair) (given room room' room₀ : List ℕ) (i at n : ℕ) (d : Pair) (o : Option Span) → i < length ps → at + span_length (owned_span (get_or ps i d).1) ≤ length room → length room ≡ length room₀ → span_fits (length given) (owned_span (get_or ps i d).1) ≡ true → take at room ++ owned_bytes given (drop i ps) ≡ owned_bytes given ps → drop at room ≡ drop at room₀ → o ≡ owned_span (get_or ps i d).1 → n ≡ span_length (owned_span (get_or ps i d).1) → room' ≡ take at room ++ (span_bytes given o ++ drop (at + span_length o) room) → (take (at + n) room' ++ owned_bytes given (drop (i + 1) ps) ≡ owned_bytes given ps) × (drop (at + n) room' ≡ drop (at + n) room₀)
+room_turn ps given room room' room₀ i at n d o h fit same inside e f eo en g =
     let g' : room' ≡ take at room ++ (span_bytes given (owned_span (get_or ps i d).1) ++ drop (at + span_length (owned_span (get_or ps i d).1)) room) = g ∙ ap (λ z. take at room ++ (span_bytes given z ++ drop (at + span_length z) room)) eo in
-    let x = room-step ps given room room' room₀ i at d h fit same inside e f g' in
+    let x = room_step ps given room room' room₀ i at d h fit same inside e f g' in
     (ap (λ k. take (at + k) room' ++ owned_bytes given (drop (i + 1) ps)) en ∙ x.0, ap (λ k. drop (at + k) room') en ∙ (x.1 ∙ ap (λ k. drop (at + k) room₀) (sym en)))
 
 -- entering one more lease
@@ -194,25 +194,25 @@ pub record Entering (ps : List Pair) (i : ℕ) (ls : List Span) (u room : ℕ) :
 
 pub entering : {U E : Type 0} (ps : List Pair) (i : ℕ) (d : Pair) (ls ls' : List Span) (used used' room : ℕ) (o : Option Span) (r : Result U E) (u : U) → i < length ps → ls ++ leases_from used (drop i ps) ≡ leases_from 0 ps → used + room_bytes (drop i ps) ≡ room_bytes ps → length ls ≤ i → o ≡ owned_span (get_or ps i d).1 → is_ok r ≡ leb (used + span_length o) room → r ≡ Ok u → used' ≡ cond (is_ok r) (used + span_length o) used → ls' ≡ cond (is_ok r) (ls ++ lease_of used o) ls → Entering ps (i + 1) ls' used' room
 entering ps i d ls ls' used used' room o r u h el eu few eo ea er fu fl =
-    let b = bytes-head ps i d h in
+    let b = bytes_head ps i d h in
     let so = ap span_length eo in
     let ok : is_ok r ≡ true = ap is_ok er in
     let fit = leb-true (used + span_length o) room (sym ea ∙ ok) in
     let u' : used' ≡ used + span_length o = fu ∙ ap (λ z. cond z (used + span_length o) used) ok in
     let l' : ls' ≡ ls ++ lease_of used o = fl ∙ ap (λ z. cond z (ls ++ lease_of used o) ls) ok in
-    let st = leases-step ls used ps i d h el in
+    let st = leases_step ls used ps i d h el in
     let u'' : used' ≡ used + span_length (owned_span (get_or ps i d).1) = u' ∙ ap (λ k. used + k) so in
     let l'' : ls' ≡ ls ++ lease_of used (owned_span (get_or ps i d).1) = l' ∙ ap (λ z. ls ++ lease_of used z) eo in
     record {
       leases = ap₂ (λ x y. x ++ leases_from y (drop (i + 1) ps)) l'' u'' ∙ st;
       used = omega arith;
       fits = omega arith;
-      few = more-leases ls ls' used i o l' few;
+      few = more_leases ls ls' used i o l' few;
     }
 
-pub full-says : {U E : Type 0} (ps : List Pair) (i : ℕ) (d : Pair) (used room : ℕ) (o : Option Span) (r : Result U E) {x : E} → i < length ps → used + room_bytes (drop i ps) ≡ room_bytes ps → o ≡ owned_span (get_or ps i d).1 → is_ok r ≡ leb (used + span_length o) room → r ≡ Err x → leb (room_bytes ps) room ≡ false
-full-says ps i d used room o r h eu eo ea er =
-    let b = bytes-head ps i d h in
+pub full_says : {U E : Type 0} (ps : List Pair) (i : ℕ) (d : Pair) (used room : ℕ) (o : Option Span) (r : Result U E) {x : E} → i < length ps → used + room_bytes (drop i ps) ≡ room_bytes ps → o ≡ owned_span (get_or ps i d).1 → is_ok r ≡ leb (used + span_length o) room → r ≡ Err x → leb (room_bytes ps) room ≡ false
+full_says ps i d used room o r h eu eo ea er =
+    let b = bytes_head ps i d h in
     let so = ap span_length eo in
     let no : leb (used + span_length o) room ≡ false = sym ea ∙ ap is_ok er in
     let lt = leb-false (used + span_length o) room no in
@@ -220,7 +220,7 @@ full-says ps i d used room o r h eu eo ea er =
 
 pub whole_says : (ps : List Pair) (i used room : ℕ) → length ps ≤ i → used + room_bytes (drop i ps) ≡ room_bytes ps → used ≤ room → true ≡ leb (room_bytes ps) room
 whole_says ps i used room h eu f =
-    let z = bytes-none ps i h in
+    let z = bytes_none ps i h in
     sym (le-leb (room_bytes ps) room (omega arith))
 
 pub never : ◌≡◌ {A = Bool} true false → ⊥

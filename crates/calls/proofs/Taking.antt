@@ -1,6 +1,6 @@
 -- Value lines taken in, one after the other.
 use Rattle.std.proofs.Common.{◌≡◌, ℕ, ◌+◌, ◌-◌, ◌<◌, ◌≤◌, List, [], ◌∷◌, ◌++◌, length, drop, Ok, Err, Result, sym, refl, ap, ◌∙◌, subst, append_assoc, append-nil, arith, length-append, length-drop, MatchResult}
-use Rattle.std.specs.List.{flat_map, AllByRecursion as All}
+use Rattle.std.specs.List.{flat_map, AllByRecursion}
 use Rattle.std.proofs.lemmas.List.{drop-drop, length_push}
 use Rattle.values.specs.declared.SqliteType.{SqliteType}
 use Rattle.binds.specs.declared.collector.Span.{Span}
@@ -11,34 +11,34 @@ use Rattle.calls.specs.Binds.{Bundle, no_values, with_bytes, with_datum, next_sp
 use Rattle.calls.specs.declared.items.Ownership.TheVariants.{Borrowed, Owned}
 use Rattle.calls.specs.declared.turns.CallFault.{CallFault}
 use Rattle.calls.specs.declared.turns.CallFault.TheVariants.{Malformed, Memory}
-use Rattle.calls.proofs.Lines.{item-free}
+use Rattle.calls.proofs.Lines.{item_free}
 
-pub kept-borrowed : (r : Result Span CallFault) (b : Bundle) (after bs : List ℕ) → Roomy b → MatchResult r (λ span. Kept b.text after bs span) (Because (65536 < length b.text + length bs)) → MatchResult r (λ span. (span ≡ next_span Borrowed bs b) × (◌≡◌ {A = Bundle} (record { pairs = b.pairs; text = after; given = b.given }) (with_bytes Borrowed bs b)) × Roomy (with_bytes Borrowed bs b)) (Because (Roomy (with_bytes Borrowed bs b) → ⊥))
-kept-borrowed (Ok span) b after bs room k =
+pub kept_borrowed : (r : Result Span CallFault) (b : Bundle) (after bs : List ℕ) → Roomy b → MatchResult r (λ span. Kept b.text after bs span) (Because (65536 < length b.text + length bs)) → MatchResult r (λ span. (span ≡ next_span Borrowed bs b) × (◌≡◌ {A = Bundle} (record { pairs = b.pairs; text = after; given = b.given }) (with_bytes Borrowed bs b)) × Roomy (with_bytes Borrowed bs b)) (Because (Roomy (with_bytes Borrowed bs b) → ⊥))
+kept_borrowed (Ok span) b after bs room k =
     let l = length-append b.text bs in
     let f = k.roomy in
-    (k.span-is, ap (λ t. record { pairs = b.pairs; text = t; given = b.given }) k.after_is, (omega arith, room.1))
-kept-borrowed (Err Malformed) b after bs room k = λ h. let l = length-append b.text bs in omega (arith, h.0)
-kept-borrowed (Err Memory) b after bs room k = tt
+    (k.span_is, ap (λ t. record { pairs = b.pairs; text = t; given = b.given }) k.after_is, (omega arith, room.1))
+kept_borrowed (Err Malformed) b after bs room k = λ h. let l = length-append b.text bs in omega (arith, h.0)
+kept_borrowed (Err Memory) b after bs room k = tt
 
-pub kept-owned : (r : Result Span CallFault) (b : Bundle) (after bs : List ℕ) → Roomy b → MatchResult r (λ span. Kept b.given after bs span) (Because (65536 < length b.given + length bs)) → MatchResult r (λ span. (span ≡ next_span Owned bs b) × (◌≡◌ {A = Bundle} (record { pairs = b.pairs; text = b.text; given = after }) (with_bytes Owned bs b)) × Roomy (with_bytes Owned bs b)) (Because (Roomy (with_bytes Owned bs b) → ⊥))
-kept-owned (Ok span) b after bs room k =
+pub kept_owned : (r : Result Span CallFault) (b : Bundle) (after bs : List ℕ) → Roomy b → MatchResult r (λ span. Kept b.given after bs span) (Because (65536 < length b.given + length bs)) → MatchResult r (λ span. (span ≡ next_span Owned bs b) × (◌≡◌ {A = Bundle} (record { pairs = b.pairs; text = b.text; given = after }) (with_bytes Owned bs b)) × Roomy (with_bytes Owned bs b)) (Because (Roomy (with_bytes Owned bs b) → ⊥))
+kept_owned (Ok span) b after bs room k =
     let l = length-append b.given bs in
     let f = k.roomy in
-    (k.span-is, ap (λ t. record { pairs = b.pairs; text = b.text; given = t }) k.after_is, (room.0, omega arith))
-kept-owned (Err Malformed) b after bs room k = λ h. let l = length-append b.given bs in omega (arith, h.1)
-kept-owned (Err Memory) b after bs room k = tt
+    (k.span_is, ap (λ t. record { pairs = b.pairs; text = b.text; given = t }) k.after_is, (room.0, omega arith))
+kept_owned (Err Malformed) b after bs room k = λ h. let l = length-append b.given bs in omega (arith, h.1)
+kept_owned (Err Memory) b after bs room k = tt
 
 -- A line whose bytes are too many.
-pub line-full : (b : Bundle) (s : List ℕ) (e : Entry) (k : ℕ) → Reads item_line GoodEntry s e k → (Roomy (with_datum e.datum b) → ⊥) → Lacks item_line (GoodNext b) s
+pub line_full : (b : Bundle) (s : List ℕ) (e : Entry) (k : ℕ) → Reads item_line GoodEntry s e k → (Roomy (with_datum e.datum b) → ⊥) → Lacks item_line (GoodNext b) s
 unfolding with_entry
-line-full b s e k r full = λ f rest g q.
-    let same = item-free e f (drop k s) rest r.good g.0 (sym r.begins ∙ q) in
+line_full b s e k r full = λ f rest g q.
+    let same = item_free e f (drop k s) rest r.good g.0 (sym r.begins ∙ q) in
     let room : Roomy (with_entry b e) = rw same.0 g.1 in
     full room
 
-pub line-none : (b : Bundle) (s : List ℕ) → Lacks item_line GoodEntry s → Lacks item_line (GoodNext b) s
-line-none b s f = λ e rest g q. f e rest g.0 q
+pub line_none : (b : Bundle) (s : List ℕ) → Lacks item_line GoodEntry s → Lacks item_line (GoodNext b) s
+line_none b s f = λ e rest g q. f e rest g.0 q
 
 pub because : {P Q : Type 0} (f : CallFault) → (P → Q) → Because P f → Because Q f
 because Malformed g p = g p
@@ -51,48 +51,48 @@ line_taken b after middle s e k v r t is =
     record {
       entry = e;
       reads = record { good = (r.good, t.roomy); begins = r.begins; size = r.size; within = r.within };
-      after_is = is ∙ (ap (λ m. with_pair (e.tpe, v) m) t.after_is ∙ ap (λ w. with_pair (e.tpe, w) (with_datum e.datum b)) t.value-is);
+      after_is = is ∙ (ap (λ m. with_pair (e.tpe, v) m) t.after_is ∙ ap (λ w. with_pair (e.tpe, w) (with_datum e.datum b)) t.value_is);
     }
 
 -- No line takes bytes away.
 longer : {A : Type 0} (xs ys : List A) → length xs ≤ length (xs ++ ys)
 longer xs ys = let l = length-append xs ys in omega arith
 
-entry-roomy : (b : Bundle) (t : SqliteType) (d : Datum) → Roomy (with_entry b (record { tpe = t; datum = d })) → Roomy b
+entry_roomy : (b : Bundle) (t : SqliteType) (d : Datum) → Roomy (with_entry b (record { tpe = t; datum = d })) → Roomy b
 unfolding with_entry
-entry-roomy b t null h = h
-entry-roomy b t (int z) h = h
-entry-roomy b t (long z) h = h
-entry-roomy b t (double n) h = h
-entry-roomy b t (text Borrowed bs) h = let l = longer b.text bs in (omega (arith, h.0), h.1)
-entry-roomy b t (text Owned bs) h = let l = longer b.given bs in (h.0, omega (arith, h.1))
-entry-roomy b t (bytes Borrowed bs) h = let l = longer b.text bs in (omega (arith, h.0), h.1)
-entry-roomy b t (bytes Owned bs) h = let l = longer b.given bs in (h.0, omega (arith, h.1))
+entry_roomy b t null h = h
+entry_roomy b t (int z) h = h
+entry_roomy b t (long z) h = h
+entry_roomy b t (double n) h = h
+entry_roomy b t (text Borrowed bs) h = let l = longer b.text bs in (omega (arith, h.0), h.1)
+entry_roomy b t (text Owned bs) h = let l = longer b.given bs in (h.0, omega (arith, h.1))
+entry_roomy b t (bytes Borrowed bs) h = let l = longer b.text bs in (omega (arith, h.0), h.1)
+entry_roomy b t (bytes Owned bs) h = let l = longer b.given bs in (h.0, omega (arith, h.1))
 
-entries-roomy : (b : Bundle) (es : List Entry) → Roomy (with_entries b es) → Roomy b
+entries_roomy : (b : Bundle) (es : List Entry) → Roomy (with_entries b es) → Roomy b
 unfolding with_entries
-entries-roomy b [] h = h
-entries-roomy b (e ∷ es) h = entry-roomy b e.tpe e.datum (entries-roomy (with_entry b e) es h)
+entries_roomy b [] h = h
+entries_roomy b (e ∷ es) h = entry_roomy b e.tpe e.datum (entries_roomy (with_entry b e) es h)
 
 -- One line more.
-entries-push : (b : Bundle) (es : List Entry) (e : Entry) → with_entries b (es ++ (e ∷ [])) ≡ with_entry (with_entries b es) e
+entries_push : (b : Bundle) (es : List Entry) (e : Entry) → with_entries b (es ++ (e ∷ [])) ≡ with_entry (with_entries b es) e
 unfolding with_entries
-entries-push b [] e = refl
-entries-push b (x ∷ es) e = entries-push (with_entry b x) es e
+entries_push b [] e = refl
+entries_push b (x ∷ es) e = entries_push (with_entry b x) es e
 
-pub all_push : {V : Type 0} (P : V → Type 0) (xs : List V) (y : V) → All P xs → P y → All P (xs ++ (y ∷ []))
+pub all_push : {V : Type 0} (P : V → Type 0) (xs : List V) (y : V) → AllByRecursion P xs → P y → AllByRecursion P (xs ++ (y ∷ []))
 all_push P [] y g h = (h, tt)
 all_push P (x ∷ xs) y g h = (g.0, all_push P xs y g.1 h)
 
-pub joined-push : {V : Type 0} (write : V → List ℕ) (xs : List V) (y : V) → flat_map write (xs ++ (y ∷ [])) ≡ flat_map write xs ++ write y
-joined-push write [] y = append-nil (write y)
-joined-push write (x ∷ xs) y = ap (λ l. write x ++ l) (joined-push write xs y) ∙ sym (append_assoc (write x) (flat_map write xs) (write y))
+pub joined_push : {V : Type 0} (write : V → List ℕ) (xs : List V) (y : V) → flat_map write (xs ++ (y ∷ [])) ≡ flat_map write xs ++ write y
+joined_push write [] y = append-nil (write y)
+joined_push write (x ∷ xs) y = ap (λ l. write x ++ l) (joined_push write xs y) ∙ sym (append_assoc (write x) (flat_map write xs) (write y))
 
 -- Of lines that begin at some place, those that are left behind b.
 pub record Left (s : List ℕ) (q m : ℕ) (b : Bundle) (rest : List ℕ) : Type 0 where
   pub items : List Entry
   pub many : length items ≡ m
-  pub good : All GoodEntry items
+  pub good : AllByRecursion GoodEntry items
   pub roomy : Roomy (with_entries b items)
   pub begins : drop q s ≡ flat_map item_line items ++ rest
 
@@ -101,7 +101,7 @@ pub record Walked (s : List ℕ) (p n : ℕ) (t : List ℕ) (q : ℕ) (b : Bundl
   pub same : t ≡ s
   pub ahead : p ≤ q
   pub read : ValuesRead s p n q b
-  pub left : (m : ℕ) (es : List Entry) (rest : List ℕ) → length es ≡ n + m → All GoodEntry es → Roomy (with_entries no_values es) → drop p s ≡ flat_map item_line es ++ rest → Left s q m b rest
+  pub left : (m : ℕ) (es : List Entry) (rest : List ℕ) → length es ≡ n + m → AllByRecursion GoodEntry es → Roomy (with_entries no_values es) → drop p s ≡ flat_map item_line es ++ rest → Left s q m b rest
 
 pub walked_none : (s : List ℕ) (p : ℕ) (b : Bundle) → p ≤ length s → b ≡ no_values → Walked s p 0 s p b
 unfolding with_entries
@@ -113,12 +113,12 @@ walked_none s p b h e =
       left = λ m es rest many good roomy begins. record { items = es; many = omega arith; good = good; roomy = rw e roomy; begins = begins };
     }
 
-left-go : (s : List ℕ) (q k m : ℕ) (b : Bundle) (e : Entry) (rest : List ℕ) → Reads item_line (GoodNext b) (drop q s) e k → (es : List Entry) → length es ≡ 1 + m → All GoodEntry es → Roomy (with_entries b es) → drop q s ≡ flat_map item_line es ++ rest → Left s (q + k) m (with_entry b e) rest
+left_go : (s : List ℕ) (q k m : ℕ) (b : Bundle) (e : Entry) (rest : List ℕ) → Reads item_line (GoodNext b) (drop q s) e k → (es : List Entry) → length es ≡ 1 + m → AllByRecursion GoodEntry es → Roomy (with_entries b es) → drop q s ≡ flat_map item_line es ++ rest → Left s (q + k) m (with_entry b e) rest
 unfolding with_entries
-left-go s q k m b e rest r [] many good roomy begins = absurd (omega arith)
-left-go s q k m b e rest r (f ∷ es) many good roomy begins =
+left_go s q k m b e rest r [] many good roomy begins = absurd (omega arith)
+left_go s q k m b e rest r (f ∷ es) many good roomy begins =
     let a = append_assoc (item_line f) (flat_map item_line es) rest in
-    let same = item-free e f (drop k (drop q s)) (flat_map item_line es ++ rest) r.good.0 good.0 (sym r.begins ∙ (begins ∙ a)) in
+    let same = item_free e f (drop k (drop q s)) (flat_map item_line es ++ rest) r.good.0 good.0 (sym r.begins ∙ (begins ∙ a)) in
     let d = drop-drop k q s in
     record { items = es; many = omega arith; good = good.1; roomy = rw same.0 roomy; begins = sym d ∙ same.1 }
 
@@ -131,7 +131,7 @@ walked_more s p n t q k b after w x =
     let bl = v.block in
     let a = bl.begins in
     let d = y.begins in
-    let j = joined-push item_line bl.items e in
+    let j = joined_push item_line bl.items e in
     let c = append_assoc (flat_map item_line bl.items) (item_line e) (drop (q + k) s) in
     let dd = drop-drop k q s in
     let lp = length_push bl.items e in
@@ -149,22 +149,22 @@ walked_more s p n t q k b after w x =
       ahead = omega arith;
       read = record {
         block = record { items = bl.items ++ (e ∷ []); many = omega arith; good = all_push GoodEntry bl.items e bl.good y.good.0; begins = cc; size = omega arith; within = omega arith };
-        gives = is ∙ (ap (λ z. with_entry z e) v.gives ∙ sym (entries-push no_values bl.items e));
+        gives = is ∙ (ap (λ z. with_entry z e) v.gives ∙ sym (entries_push no_values bl.items e));
         roomy = rw is y.good.1;
       };
       left = λ m es rest many good roomy begins.
           let l = w.left (1 + m) es rest (omega arith) good roomy begins in
-          rw is (left-go s q k m b e rest y l.items l.many l.good l.roomy l.begins);
+          rw is (left_go s q k m b e rest y l.items l.many l.good l.roomy l.begins);
     }
 
-stuck-go : (s : List ℕ) (q m : ℕ) (b : Bundle) (rest : List ℕ) → Lacks item_line (GoodNext b) (drop q s) → (es : List Entry) → length es ≡ 1 + m → All GoodEntry es → Roomy (with_entries b es) → drop q s ≡ flat_map item_line es ++ rest → ⊥
+stuck_go : (s : List ℕ) (q m : ℕ) (b : Bundle) (rest : List ℕ) → Lacks item_line (GoodNext b) (drop q s) → (es : List Entry) → length es ≡ 1 + m → AllByRecursion GoodEntry es → Roomy (with_entries b es) → drop q s ≡ flat_map item_line es ++ rest → ⊥
 unfolding with_entries
-stuck-go s q m b rest f [] many good roomy begins = omega arith
-stuck-go s q m b rest f (e ∷ es) many good roomy begins =
-    f e (flat_map item_line es ++ rest) (good.0, entries-roomy (with_entry b e) es roomy) (begins ∙ append_assoc (item_line e) (flat_map item_line es) rest)
+stuck_go s q m b rest f [] many good roomy begins = omega arith
+stuck_go s q m b rest f (e ∷ es) many good roomy begins =
+    f e (flat_map item_line es ++ rest) (good.0, entries_roomy (with_entry b e) es roomy) (begins ∙ append_assoc (item_line e) (flat_map item_line es) rest)
 
-pub walked-stuck : (s : List ℕ) (p i : ℕ) (t : List ℕ) (q n : ℕ) (b : Bundle) → Walked s p i t q b → i < n → Lacks item_line (GoodNext b) (drop q t) → NoLines s p n
-walked-stuck s p i t q n b w h f = λ es rest many good roomy begins.
+pub walked_stuck : (s : List ℕ) (p i : ℕ) (t : List ℕ) (q n : ℕ) (b : Bundle) → Walked s p i t q b → i < n → Lacks item_line (GoodNext b) (drop q t) → NoLines s p n
+walked_stuck s p i t q n b w h f = λ es rest many good roomy begins.
     let g : Lacks item_line (GoodNext b) (drop q s) = subst (λ z. Lacks item_line (GoodNext b) (drop q z)) w.same f in
     let l = w.left (1 + (n - i - 1)) es rest (omega arith) good roomy begins in
-    stuck-go s q (n - i - 1) b rest g l.items l.many l.good l.roomy l.begins
+    stuck_go s q (n - i - 1) b rest g l.items l.many l.good l.roomy l.begins

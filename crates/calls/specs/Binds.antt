@@ -2,7 +2,7 @@
 use Rattle.std.specs.Prelude.{◌≡◌, ℕ, ◌+◌, ◌≤◌, List, [], ◌∷◌, ◌++◌, length, drop, vec_items, ◌≢◌}
 use Rattle.std.specs.Float.Ieee as Ieee
 use Rattle.std.specs.Float.{binary64}
-use Rattle.std.specs.List.{flat_map, AllByRecursion as All}
+use Rattle.std.specs.List.{flat_map, AllByRecursion}
 use Rattle.binds.specs.Pairs.{Pair}
 use Rattle.binds.specs.declared.collector.Span.{Span}
 use Rattle.binds.specs.declared.collector.SqliteBindValue.{SqliteBindValue}
@@ -104,12 +104,12 @@ no_memory = Memory
 -- The bytes were kept behind those of before, which are not too many, at this place.
 pub record Kept (before after : List ℕ) (bs : List ℕ) (span : Span) : Type 0 where
   pub after_is : after ≡ before ++ bs
-  pub span-is : span ≡ record { start = length before; len = length bs }
+  pub span_is : span ≡ record { start = length before; len = length bs }
   pub roomy : length before + length bs ≤ 65536
 
 -- The value was taken in.
 pub record TakenIn (before after : Bundle) (d : Datum) (v : SqliteBindValue) : Type 0 where
-  pub value-is : v ≡ next_value before d
+  pub value_is : v ≡ next_value before d
   pub after_is : after ≡ with_datum d before
   pub roomy : Roomy (with_datum d before)
 
@@ -127,4 +127,4 @@ pub record ValuesRead (s : List ℕ) (p n q : ℕ) (b : Bundle) : Type 0 where
 
 -- At place p of s stand no n value lines whose bytes are not too many.
 abbrev pub NoLines : List ℕ → ℕ → ℕ → Type 0
-NoLines s p n = (es : List Entry) (rest : List ℕ) → length es ≡ n → All GoodEntry es → Roomy (with_entries no_values es) → drop p s ≢ flat_map item_line es ++ rest
+NoLines s p n = (es : List Entry) (rest : List ℕ) → length es ≡ n → AllByRecursion GoodEntry es → Roomy (with_entries no_values es) → drop p s ≢ flat_map item_line es ++ rest

@@ -1,6 +1,6 @@
 -- Calls: how their lines are written, what they may hold, and the turns that they make.
 use Rattle.std.specs.Prelude.{◌≡◌, ℕ, ◌+◌, ◌<◌, ◌≤◌, Bool, true, false, List, [], ◌∷◌, ◌++◌, map, length, drop, Some, None, vec_items, decimal, Option}
-use Rattle.std.specs.List.{flat_map, AllByRecursion as All}
+use Rattle.std.specs.List.{flat_map, AllByRecursion}
 use Rattle.runs.specs.Turns.{Asked, asked}
 use Rattle.runs.specs.Turns as run
 use Rattle.runs.specs.declared.turns.Lent.{Lent}
@@ -38,7 +38,7 @@ GoodHead h = (h.0 ≤ 4294967295) × (h.1 ≤ 4294967295)
 
 -- A good first line, good value lines, and at most 65,536 bytes of each kind.
 abbrev pub GoodCall : Given → Type 0
-GoodCall (bind query es) = GoodHead (query, length es) × All GoodEntry es × Roomy (with_entries no_values es)
+GoodCall (bind query es) = GoodHead (query, length es) × AllByRecursion GoodEntry es × Roomy (with_entries no_values es)
 GoodCall execute = Unit {0}
 GoodCall end = Unit {0}
 
@@ -93,9 +93,9 @@ TurnsFor room (g ∷ gs) (t ∷ ts) = TurnFor g t × (fresh_bytes t.room ≡ roo
 pub record CallsRead (s room letters : List ℕ) (turns : List Turn) (malformed : Bool) : Type 0 where
   pub calls : List Given
   pub rest : List ℕ
-  pub good : All GoodCall calls
+  pub good : AllByRecursion GoodCall calls
   pub begins : s ≡ flat_map call_lines calls ++ rest
-  pub letters-are : letters ≡ map call_letter calls
-  pub turns-are : TurnsFor (Some room) calls turns
+  pub letters_are : letters ≡ map call_letter calls
+  pub turns_are : TurnsFor (Some room) calls turns
   pub whole : malformed ≡ false → rest ≡ []
   pub broken : malformed ≡ true → (0 < length rest) × Lacks call_lines GoodCall rest

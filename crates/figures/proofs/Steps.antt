@@ -18,45 +18,45 @@ AllDigits ds = (i : ℕ) → i < length ds → IsInRange 48 57 (get_or ds i 0)
 pub own : IsNumeralModel AllDigits (read_on 0)
 own = numerals_by_fold _ tells_by_index read_on (search rules)
 
-pub read_on-push : (xs : List ℕ) (n c : ℕ) → read_on n (xs ++ (c ∷ [])) ≡ 10 * read_on n xs + (c - 48)
-read_on-push [] n c = refl
-read_on-push (x ∷ xs) n c = read_on-push xs (10 * n + (x - 48)) c
+pub read_on_push : (xs : List ℕ) (n c : ℕ) → read_on n (xs ++ (c ∷ [])) ≡ 10 * read_on n xs + (c - 48)
+read_on_push [] n c = refl
+read_on_push (x ∷ xs) n c = read_on_push xs (10 * n + (x - 48)) c
 
-pub taken-digits : (s : List ℕ) (i : ℕ) → i ≤ length s → ((k : ℕ) → k < i → IsInRange 48 57 (get_or s k 0)) → AllDigits (take i s)
-taken-digits s i h d k l =
+pub taken_digits : (s : List ℕ) (i : ℕ) → i ≤ length s → ((k : ℕ) → k < i → IsInRange 48 57 (get_or s k 0)) → AllDigits (take i s)
+taken_digits s i h d k l =
     let e = length-take-le i s h in
     let f : k < i = omega arith in
     rw get_or-take (d k f)
 
-pub run-below : (s : List ℕ) (n i : ℕ) → i ≤ length s → i ≤ 19 → ((k : ℕ) → k < i → IsInRange 48 57 (get_or s k 0)) → n ≡ read_on 0 (take i s) → n < 10 ^ 19
-run-below s n i h j d e =
+pub run_below : (s : List ℕ) (n i : ℕ) → i ≤ length s → i ≤ 19 → ((k : ℕ) → k < i → IsInRange 48 57 (get_or s k 0)) → n ≡ read_on 0 (take i s) → n < 10 ^ 19
+run_below s n i h j d e =
     let l = length-take-le i s h in
-    let v = digits_value_short own (take i s) 19 (taken-digits s i h d) (omega arith) in
+    let v = digits_value_short own (take i s) 19 (taken_digits s i h d) (omega arith) in
     omega arith
 
 pub run_more : (s : List ℕ) (n i : ℕ) → i < length s → n ≡ read_on 0 (take i s) → 10 * n + (get_or s i 0 - 48) ≡ read_on 0 (take (i + 1) s)
 run_more s n i h e =
     let t = take_more s i 0 h in
-    let p = read_on-push (take i s) 0 (get_or s i 0) in
+    let p = read_on_push (take i s) 0 (get_or s i 0) in
     let q = ap (read_on 0) t in
     omega arith
 
 -- a run of digits does not pass a byte below them
-run-le : (s ds rest : List ℕ) (stop i : ℕ) → stop < 48 → s ≡ ds ++ (stop ∷ rest) → ((k : ℕ) → k < i → IsInRange 48 57 (get_or s k 0)) → i ≤ length ds
-run-le s ds rest stop i low e d =
+run_le : (s ds rest : List ℕ) (stop i : ℕ) → stop < 48 → s ≡ ds ++ (stop ∷ rest) → ((k : ℕ) → k < i → IsInRange 48 57 (get_or s k 0)) → i ≤ length ds
+run_le s ds rest stop i low e d =
     ⊎_elim
     (λ (h : length ds < i). let a = d (length ds) h in let g = ap (λ l. get_or l (length ds) 0) e ∙ get_or_at ds stop rest 0 (length ds) refl in absurd (omega arith))
     (λ h. h)
     (cases_lt (length ds) i)
 
-front-digits : (s ds rest : List ℕ) → s ≡ ds ++ rest → AllDigits ds → (k : ℕ) → k < length ds → IsInRange 48 57 (get_or s k 0)
-front-digits s ds rest e d k h = let r = front_reads 0 s ds rest e k h in let a = d k h in (omega arith, omega arith)
+front_digits : (s ds rest : List ℕ) → s ≡ ds ++ rest → AllDigits ds → (k : ℕ) → k < length ds → IsInRange 48 57 (get_or s k 0)
+front_digits s ds rest e d k h = let r = front_reads 0 s ds rest e k h in let a = d k h in (omega arith, omega arith)
 
 same_digits : (ds es r t : List ℕ) (a b : ℕ) → a < 48 → b < 48 → AllDigits ds → AllDigits es → ds ++ (a ∷ r) ≡ es ++ (b ∷ t) → ds ≡ es
 same_digits ds es r t a b la lb d f e =
     let s = ds ++ (a ∷ r) in
-    let x = run-le s es t b (length ds) lb e (front-digits s ds (a ∷ r) refl d) in
-    let y = run-le s ds r a (length es) la refl (front-digits s es (b ∷ t) e f) in
+    let x = run_le s es t b (length ds) lb e (front_digits s ds (a ∷ r) refl d) in
+    let y = run_le s ds r a (length es) la refl (front_digits s es (b ∷ t) e f) in
     let z : length ds ≡ length es = omega arith in
     sym (take_at ds (a ∷ r) (length ds) refl) ∙ (ap (take (length ds)) e ∙ take_at es (b ∷ t) (length ds) (sym z))
 
@@ -66,8 +66,8 @@ pub record Same (m n a b : ℕ) (r t : List ℕ) : Type 0 where
   pub stops : a ≡ b
   pub rests : r ≡ t
 
-pub figure-free : (m n a b : ℕ) (r t : List ℕ) → m < 2 ^ 64 → n < 2 ^ 64 → a < 48 → b < 48 → decimal m ++ (a ∷ r) ≡ decimal n ++ (b ∷ t) → Same m n a b r t
-figure-free m n a b r t hm hn la lb e =
+pub figure_free : (m n a b : ℕ) (r t : List ℕ) → m < 2 ^ 64 → n < 2 ^ 64 → a < 48 → b < 48 → decimal m ++ (a ∷ r) ≡ decimal n ++ (b ∷ t) → Same m n a b r t
+figure_free m n a b r t hm hn la lb e =
     let d = same_digits (decimal m) (decimal n) r t a b la lb (digits_decimal own m hm) (digits_decimal own n hn) e in
     let v = digits_value-decimal own m hm in
     let w = digits_value-decimal own n hn in
@@ -83,8 +83,8 @@ pub record Seen (s : List ℕ) (n i stop m : ℕ) : Type 0 where
   pub stop_is : get_or s i 0 ≡ stop
   pub plain : get_or s 0 0 ≡ 48 → i ≤ 1
 
-first-is : (m : ℕ) → m < 2 ^ 64 → get_or (decimal m) 0 0 ≡ 48 → length (decimal m) ≤ 1
-first-is m h e =
+first_is : (m : ℕ) → m < 2 ^ 64 → get_or (decimal m) 0 0 ≡ 48 → length (decimal m) ≤ 1
+first_is m h e =
     ⊎_elim
     (λ (p : 0 < m). let f = first_decimal m p h in absurd (omega arith))
     (λ (p : m ≤ 0). let f = ap length (decimal_digit m (omega arith)) in omega arith)
@@ -97,10 +97,10 @@ seen s rest n i stop m low big r e =
     let dd = digits_decimal own m big in
     let len = length-decimal-le 20 m (omega arith) small big in
     let fit = ap length e ∙ length-append ds (stop ∷ rest) in
-    let up = run-le s ds rest stop i low e r.digits in
+    let up = run_le s ds rest stop i low e r.digits in
     let down : length ds ≤ i =
     ⊎_elim
-    (λ (h : i < length ds). absurd (r.stops (omega arith) (omega arith) (front-digits s ds (stop ∷ rest) e dd i h)))
+    (λ (h : i < length ds). absurd (r.stops (omega arith) (omega arith) (front_digits s ds (stop ∷ rest) e dd i h)))
     (λ h. h)
     (cases_lt i (length ds)) in
     let is : i ≡ length ds = omega arith in
@@ -109,13 +109,13 @@ seen s rest n i stop m low big r e =
     let g = ap (λ l. get_or l i 0) e ∙ get_or_at ds stop rest 0 i (sym is) in
     let some = decimal_nonempty m big in
     let z = front_reads 0 s ds (stop ∷ rest) e 0 some in
-    record { value = v; some = omega arith; inside = omega arith; stop_is = g; plain = λ p. omega (arith, first-is m big (omega arith)) }
+    record { value = v; some = omega arith; inside = omega arith; stop_is = g; plain = λ p. omega (arith, first_is m big (omega arith)) }
 
 pub figured : (s : List ℕ) (n i stop most : ℕ) → Run s n i → most < 2 ^ 64 → 0 < i → i < length s → (get_or s 0 0 ≡ 48 → i ≤ 1) → n ≤ most → get_or s i 0 ≡ stop → Figured stop most s n (i + 1)
 figured s n i stop most r small some inside plain le is =
     let w = r.within in
     let l = length-take-le i s w in
-    let td = taken-digits s i w r.digits in
+    let td = taken_digits s i w r.digits in
     let z : get_or (take i s) 0 0 ≡ get_or s 0 0 = rw get_or-take in
     let v = r.value in
     let d = decimal-digits_value own (take i s) td (omega arith) (λ p. let q = plain (omega arith) in omega arith) (omega arith) in
@@ -129,9 +129,9 @@ pub record PieceSeen (s bs : List ℕ) (n from : ℕ) : Type 0 where
   pub inside : from + n < length s
   pub stop_is : get_or s (from + n) 0 ≡ 10
 
-pub piece-seen : (s bs rest : List ℕ) (most n from : ℕ) → most < 2 ^ 64 → Figured 32 most s n from → length bs ≤ most → s ≡ decimal (length bs) ++ (32 ∷ (bs ++ (10 ∷ rest))) → PieceSeen s bs n from
-piece-seen s bs rest most n from small f h e =
-    let same = figure-free n (length bs) 32 32 (drop from s) (bs ++ (10 ∷ rest)) (omega arith) (omega arith) (omega arith) (omega arith) (sym f.begins ∙ e) in
+pub piece_seen : (s bs rest : List ℕ) (most n from : ℕ) → most < 2 ^ 64 → Figured 32 most s n from → length bs ≤ most → s ≡ decimal (length bs) ++ (32 ∷ (bs ++ (10 ∷ rest))) → PieceSeen s bs n from
+piece_seen s bs rest most n from small f h e =
+    let same = figure_free n (length bs) 32 32 (drop from s) (bs ++ (10 ∷ rest)) (omega arith) (omega arith) (omega arith) (omega arith) (sym f.begins ∙ e) in
     let l = ap length same.rests ∙ length-append bs (10 ∷ rest) in
     let d = length-drop from s in
     let g = ap (λ l. get_or l n 0) same.rests ∙ get_or_at bs 10 rest 0 n (sym same.figures) in
@@ -150,20 +150,20 @@ pieced s least most n from f low inside is =
     let z : get_or (drop from s) n 0 ≡ 10 = k ∙ is in
     record { low = low; high = f.small; exact = length-take-le n (drop from s) (omega arith); begins = cc; fore = f.long; within = inside }
 
-digit-first : (n : ℕ) (rest : List ℕ) → n < 2 ^ 64 → 48 ≤ get_or (decimal n ++ rest) 0 0
-digit-first n rest h =
+digit_first : (n : ℕ) (rest : List ℕ) → n < 2 ^ 64 → 48 ≤ get_or (decimal n ++ rest) 0 0
+digit_first n rest h =
     let l = decimal_nonempty n h in
     let d = digits_decimal own n h 0 l in
     let g = get_or_append_left (decimal n) rest 0 0 l in
     omega arith
 
-pub minus-seen : (s rest : List ℕ) (stop : ℕ) (z : ℤ) → mag z < 2 ^ 63 → get_or s 0 0 ≡ 45 → s ≡ signed_decimal z ++ (stop ∷ rest) → (m : ℕ) × (0 < m) × (m ≤ 2 ^ 63) × (drop 1 s ≡ decimal m ++ (stop ∷ rest))
-minus-seen s rest stop (pos n) h is e = let d = digit-first n (stop ∷ rest) (omega arith) in absurd (omega (arith, ap (λ l. get_or l 0 0) e))
-minus-seen s rest stop (negsuc n) h is e = (suc n, omega arith, omega arith, ap (drop 1) e)
+pub minus_seen : (s rest : List ℕ) (stop : ℕ) (z : ℤ) → mag z < 2 ^ 63 → get_or s 0 0 ≡ 45 → s ≡ signed_decimal z ++ (stop ∷ rest) → (m : ℕ) × (0 < m) × (m ≤ 2 ^ 63) × (drop 1 s ≡ decimal m ++ (stop ∷ rest))
+minus_seen s rest stop (pos n) h is e = let d = digit_first n (stop ∷ rest) (omega arith) in absurd (omega (arith, ap (λ l. get_or l 0 0) e))
+minus_seen s rest stop (negsuc n) h is e = (suc n, omega arith, omega arith, ap (drop 1) e)
 
-pub minus-numbered : (s : List ℕ) (stop m k : ℕ) → 0 < length s → get_or s 0 0 ≡ 45 → 0 < m → Figured stop (2 ^ 63) (drop 1 s) m k → Numbered stop s (negsuc (m - 1)) (k + 1)
-minus-numbered [] stop m k some is pos-m f = absurd (omega arith)
-minus-numbered (x ∷ xs) stop m k some is pos-m f =
+pub minus_numbered : (s : List ℕ) (stop m k : ℕ) → 0 < length s → get_or s 0 0 ≡ 45 → 0 < m → Figured stop (2 ^ 63) (drop 1 s) m k → Numbered stop s (negsuc (m - 1)) (k + 1)
+minus_numbered [] stop m k some is pos-m f = absurd (omega arith)
+minus_numbered (x ∷ xs) stop m k some is pos-m f =
     let b = f.begins in
     let a : suc (m - 1) ≡ m = omega arith in
     let q = ap decimal a in
@@ -172,9 +172,9 @@ minus-numbered (x ∷ xs) stop m k some is pos-m f =
     record { small = omega arith; begins = rw add-one e; long = omega arith; within = omega arith }
 
 -- a piece, and a signed figure, are read in one way
-pub piece-free : (b d r t : List ℕ) → length b < 2 ^ 64 → length d < 2 ^ 64 → decimal (length b) ++ (32 ∷ (b ++ (10 ∷ r))) ≡ decimal (length d) ++ (32 ∷ (d ++ (10 ∷ t))) → (b ≡ d) × (r ≡ t)
-piece-free b d r t hb hd e =
-    let same = figure-free (length b) (length d) 32 32 (b ++ (10 ∷ r)) (d ++ (10 ∷ t)) hb hd (omega arith) (omega arith) e in
+pub piece_free : (b d r t : List ℕ) → length b < 2 ^ 64 → length d < 2 ^ 64 → decimal (length b) ++ (32 ∷ (b ++ (10 ∷ r))) ≡ decimal (length d) ++ (32 ∷ (d ++ (10 ∷ t))) → (b ≡ d) × (r ≡ t)
+piece_free b d r t hb hd e =
+    let same = figure_free (length b) (length d) 32 32 (b ++ (10 ∷ r)) (d ++ (10 ∷ t)) hb hd (omega arith) (omega arith) e in
     let x = same.rests in
     let p = take_at b (10 ∷ r) (length b) refl in
     let q = take_at d (10 ∷ t) (length b) (sym same.figures) in
@@ -183,28 +183,28 @@ piece-free b d r t hb hd e =
     let w : 10 ∷ r ≡ 10 ∷ t = sym u ∙ (ap (drop (length b)) x ∙ v) in
     (sym p ∙ (ap (take (length b)) x ∙ q), cc)
 
-pub pieced-is : (s b rest : List ℕ) (least most from len : ℕ) → most < 2 ^ 64 → Pieced least most s from len → length b ≤ most → s ≡ decimal (length b) ++ (32 ∷ (b ++ (10 ∷ rest))) → b ≡ take len (drop from s)
-pieced-is s b rest least most from len small p h e =
+pub pieced_is : (s b rest : List ℕ) (least most from len : ℕ) → most < 2 ^ 64 → Pieced least most s from len → length b ≤ most → s ≡ decimal (length b) ++ (32 ∷ (b ++ (10 ∷ rest))) → b ≡ take len (drop from s)
+pieced_is s b rest least most from len small p h e =
     let part = take len (drop from s) in
     let d = ap decimal p.exact in
     let g = p.begins in
     let x = p.exact in
     let y = p.high in
     let f : decimal (length b) ++ (32 ∷ (b ++ (10 ∷ rest))) ≡ decimal (length part) ++ (32 ∷ (part ++ (10 ∷ drop (from + len + 1) s))) = cc in
-    (piece-free b part rest (drop (from + len + 1) s) (omega arith) (omega arith) f).0
+    (piece_free b part rest (drop (from + len + 1) s) (omega arith) (omega arith) f).0
 
-pub number-free : (y z : ℤ) (stop : ℕ) (r t : List ℕ) → stop < 48 → mag y < 2 ^ 63 → mag z < 2 ^ 63 → signed_decimal y ++ (stop ∷ r) ≡ signed_decimal z ++ (stop ∷ t) → (y ≡ z) × (r ≡ t)
-number-free (pos m) (pos n) stop r t low hy hz e =
-    let same = figure-free m n stop stop r t (omega arith) (omega arith) low low e in (ap pos same.figures, same.rests)
-number-free (pos m) (negsuc n) stop r t low hy hz e = let d = digit-first m (stop ∷ r) (omega arith) in absurd (omega (arith, ap (λ l. get_or l 0 0) e))
-number-free (negsuc m) (pos n) stop r t low hy hz e = let d = digit-first n (stop ∷ t) (omega arith) in absurd (omega (arith, ap (λ l. get_or l 0 0) e))
-number-free (negsuc m) (negsuc n) stop r t low hy hz e =
-    let same = figure-free (suc m) (suc n) stop stop r t (omega arith) (omega arith) low low (ap (drop 1) e) in
+pub number_free : (y z : ℤ) (stop : ℕ) (r t : List ℕ) → stop < 48 → mag y < 2 ^ 63 → mag z < 2 ^ 63 → signed_decimal y ++ (stop ∷ r) ≡ signed_decimal z ++ (stop ∷ t) → (y ≡ z) × (r ≡ t)
+number_free (pos m) (pos n) stop r t low hy hz e =
+    let same = figure_free m n stop stop r t (omega arith) (omega arith) low low e in (ap pos same.figures, same.rests)
+number_free (pos m) (negsuc n) stop r t low hy hz e = let d = digit_first m (stop ∷ r) (omega arith) in absurd (omega (arith, ap (λ l. get_or l 0 0) e))
+number_free (negsuc m) (pos n) stop r t low hy hz e = let d = digit_first n (stop ∷ t) (omega arith) in absurd (omega (arith, ap (λ l. get_or l 0 0) e))
+number_free (negsuc m) (negsuc n) stop r t low hy hz e =
+    let same = figure_free (suc m) (suc n) stop stop r t (omega arith) (omega arith) low low (ap (drop 1) e) in
     let f = same.figures in
     let g : m ≡ n = omega arith in
     (ap negsuc g, same.rests)
 
 -- Both bytes that end a figure are below the digits.
-pub stop-low : (stop : Stop) → stop_byte stop < 48
-stop-low Space = omega arith
-stop-low Line = omega arith
+pub stop_low : (stop : Stop) → stop_byte stop < 48
+stop_low Space = omega arith
+stop_low Line = omega arith

@@ -1,6 +1,6 @@
 -- What is so of every host, in every state.
 use Rattle.std.specs.Prelude.{◌≡◌, ℕ, ◌%◌, ◌^◌, ◌≤◌, Bool, true, false, cond, List, [], ◌∷◌, length, is_some, ◌==◌}
-use Rattle.std.specs.List.{AllByRecursion as All}
+use Rattle.std.specs.List.{AllByRecursion}
 use Rattle.values.specs.Value.{Value, null, long, double, text, blob}
 use Rattle.host.specs.Outcome.{row}
 use Rattle.host.specs.Meaning.{Meaning, Copies}
@@ -36,5 +36,5 @@ pub record Sound (m : Meaning) : Type 0 where
   pub each : length m.slots ≡ m.params
   pub named : length m.names ≤ 16
   -- every row that the program can give, at any place and slots
-  pub rows : (place : ℕ) (values vs : List Value) → (m.program place values).0 ≡ row vs → (length vs ≡ length m.names) × All Rowable vs
+  pub rows : (place : ℕ) (values vs : List Value) → (m.program place values).0 ≡ row vs → (length vs ≡ length m.names) × AllByRecursion Rowable vs
   pub copies : Counted m.live m.count

@@ -1,6 +1,6 @@
 -- From the bytes that are left to the whole: one line read, or lines of a kind.
 use Rattle.std.proofs.Common.{◌≡◌, ℕ, ◌+◌, ◌<◌, ◌≤◌, Bool, true, false, not, ◌||◌, eqb, List, [], ◌∷◌, ◌++◌, map, length, take, drop, sym, refl, ap, ◌∙◌, subst, inl, inr, append_assoc, append-nil, arith, length-append, length-drop}
-use Rattle.std.specs.List.{flat_map, AllByRecursion as All}
+use Rattle.std.specs.List.{flat_map, AllByRecursion}
 use Rattle.std.proofs.lemmas.List.{drop-drop, length_push, length-map}
 use Rattle.figures.specs.declared.Part.{Part}
 use Rattle.host.specs.Outcome.{Outcome, row, done, failed}
@@ -12,21 +12,21 @@ use Rattle.sheet.specs.declared.lines.Head.{Head}
 use Rattle.sheet.specs.declared.lines.Head.TheVariants.{Row, Done, Failed, End}
 
 -- Every line has bytes.
-pub heading-long : (h : Heading) → 0 < length (heading_line h)
-heading-long h = simp length-append (omega arith)
+pub heading_long : (h : Heading) → 0 < length (heading_line h)
+heading_long h = simp length-append (omega arith)
 
-pub value-long : (v : Value) → 0 < length (value_line v)
-value-long null = omega arith
-value-long (long z) = omega arith
-value-long (double n) = omega arith
-value-long (text b) = omega arith
-value-long (blob b) = omega arith
+pub value_long : (v : Value) → 0 < length (value_line v)
+value_long null = omega arith
+value_long (long z) = omega arith
+value_long (double n) = omega arith
+value_long (text b) = omega arith
+value_long (blob b) = omega arith
 
-pub head-long : (h : Head) → 0 < length (head_line h)
-head-long Row = omega arith
-head-long Done = omega arith
-head-long (Failed n) = omega arith
-head-long End = omega arith
+pub head_long : (h : Head) → 0 < length (head_line h)
+head_long Row = omega arith
+head_long Done = omega arith
+head_long (Failed n) = omega arith
+head_long End = omega arith
 
 -- One line.
 pub passes : {V : Type 0} (write : V → List ℕ) (Good : V → Type 0) (s t : List ℕ) (p : ℕ) (v : V) (k : ℕ) → t ≡ drop p s → p ≤ length s → 0 < length (write v) → Reads write Good t v k → (0 < k) × (p + k ≤ length s)
@@ -59,13 +59,13 @@ pub part_in : (s t : List ℕ) (p : ℕ) (a b : Part) → t ≡ drop p s → p �
 part_in s t p a b e h f g w = let l = ap length e ∙ length-drop p s in omega arith
 
 -- Lines of a kind.
-all_push : {V : Type 0} (P : V → Type 0) (xs : List V) (y : V) → All P xs → P y → All P (xs ++ (y ∷ []))
+all_push : {V : Type 0} (P : V → Type 0) (xs : List V) (y : V) → AllByRecursion P xs → P y → AllByRecursion P (xs ++ (y ∷ []))
 all_push P [] y g h = (h, tt)
 all_push P (x ∷ xs) y g h = (g.0, all_push P xs y g.1 h)
 
-joined-push : {V : Type 0} (write : V → List ℕ) (xs : List V) (y : V) → flat_map write (xs ++ (y ∷ [])) ≡ flat_map write xs ++ write y
-joined-push write [] y = append-nil (write y)
-joined-push write (x ∷ xs) y = ap (λ l. write x ++ l) (joined-push write xs y) ∙ sym (append_assoc (write x) (flat_map write xs) (write y))
+joined_push : {V : Type 0} (write : V → List ℕ) (xs : List V) (y : V) → flat_map write (xs ++ (y ∷ [])) ≡ flat_map write xs ++ write y
+joined_push write [] y = append-nil (write y)
+joined_push write (x ∷ xs) y = ap (λ l. write x ++ l) (joined_push write xs y) ∙ sym (append_assoc (write x) (flat_map write xs) (write y))
 
 -- So many lines were read, and the reader is at place q and line m of the bytes t, which are still s.
 pub record Walked {V : Type 0} (write : V → List ℕ) (Good : V → Type 0) (s : List ℕ) (p l n : ℕ) (t : List ℕ) (q m : ℕ) : Type 0 where
@@ -82,7 +82,7 @@ walked_more write Good s p l n t q m v u r k w x e =
     let y : Moved write Good s q m v r k = subst (λ z. Moved write Good z q m v r k) w.same x in
     let a = b.begins in
     let d = y.begins in
-    let j = joined-push write b.items v in
+    let j = joined_push write b.items v in
     let c = append_assoc (flat_map write b.items) (write v) (drop r s) in
     let lp = length_push b.items v in
     let lj = ap length j ∙ length-append (flat_map write b.items) (write v) in
@@ -97,8 +97,8 @@ walked_more write Good s p l n t q m v u r k w x e =
       same = e ∙ w.same;
     }
 
-pub walked-breaks : {V : Type 0} (write : V → List ℕ) (Good : V → Type 0) (s : List ℕ) (p l k : ℕ) (t : List ℕ) (q m n bad : ℕ) → Walked write Good s p l k t q m → k < n → Stuck write Good t q m bad → Breaks write Good s p l n bad
-walked-breaks write Good s p l k t q m n bad w h x =
+pub walked_breaks : {V : Type 0} (write : V → List ℕ) (Good : V → Type 0) (s : List ℕ) (p l k : ℕ) (t : List ℕ) (q m n bad : ℕ) → Walked write Good s p l k t q m → k < n → Stuck write Good t q m bad → Breaks write Good s p l n bad
+walked_breaks write Good s p l k t q m n bad w h x =
     let y : Stuck write Good s q m bad = subst (λ z. Stuck write Good z q m bad) w.same x in
     record { there = k; short = h; next = q; front = w.block; stuck = record { line = y.line ∙ w.line; lacks = y.lacks } }
 
@@ -110,46 +110,46 @@ or_assoc : (a b d : Bool) → ((a || b) || d) ≡ (a || (b || d))
 or_assoc true b d = refl
 or_assoc false b d = refl
 
-column-push : (xs : List ℕ) (k : ℕ) → names_column (xs ++ (k ∷ [])) ≡ (names_column xs || not (eqb k 0))
-column-push [] k = or-false (not (eqb k 0))
+column_push : (xs : List ℕ) (k : ℕ) → names_column (xs ++ (k ∷ [])) ≡ (names_column xs || not (eqb k 0))
+column_push [] k = or_false (not (eqb k 0))
   where
-    or-false : (a : Bool) → (a || false) ≡ a
-    or-false true = refl
-    or-false false = refl
-column-push (x ∷ xs) k = ap (λ b. not (eqb x 0) || b) (column-push xs k) ∙ sym (or_assoc (not (eqb x 0)) (names_column xs) (not (eqb k 0)))
+    or_false : (a : Bool) → (a || false) ≡ a
+    or_false true = refl
+    or_false false = refl
+column_push (x ∷ xs) k = ap (λ b. not (eqb x 0) || b) (column_push xs k) ∙ sym (or_assoc (not (eqb x 0)) (names_column xs) (not (eqb k 0)))
 
 -- So many parameters were read, and `table` says whether some of them names a column.
 pub record Columns (columns : ℕ) (s : List ℕ) (p l n : ℕ) (t : List ℕ) (q m : ℕ) (table : Bool) : Type 0 where
   pub walked : Walked param_line (GoodParam columns) s p l n t q m
   pub told : table ≡ names_column walked.block.items
 
-pub columns-none : (columns : ℕ) (s : List ℕ) (p l : ℕ) → p ≤ length s → Columns columns s p l 0 s p l false
+pub columns_none : (columns : ℕ) (s : List ℕ) (p l : ℕ) → p ≤ length s → Columns columns s p l 0 s p l false
 unfolding walked_none
-columns-none columns s p l h = record { walked = walked_none param_line (GoodParam columns) s p l h; told = refl }
+columns_none columns s p l h = record { walked = walked_none param_line (GoodParam columns) s p l h; told = refl }
 
-pub columns-more : (columns : ℕ) (s : List ℕ) (p l n : ℕ) (t : List ℕ) (q m : ℕ) (table : Bool) (k : ℕ) (u : List ℕ) (r i : ℕ) (next : Bool) → Columns columns s p l n t q m table → Moved param_line (GoodParam columns) t q m k r i → u ≡ t → next ≡ (table || not (eqb k 0)) → Columns columns s p l (n + 1) u r i next
+pub columns_more : (columns : ℕ) (s : List ℕ) (p l n : ℕ) (t : List ℕ) (q m : ℕ) (table : Bool) (k : ℕ) (u : List ℕ) (r i : ℕ) (next : Bool) → Columns columns s p l n t q m table → Moved param_line (GoodParam columns) t q m k r i → u ≡ t → next ≡ (table || not (eqb k 0)) → Columns columns s p l (n + 1) u r i next
 unfolding walked_more
-columns-more columns s p l n t q m table k u r i next w x e f =
+columns_more columns s p l n t q m table k u r i next w x e f =
     record {
       walked = walked_more param_line (GoodParam columns) s p l n t q m k u r i w.walked x e;
-      told = f ∙ (ap (λ b. b || not (eqb k 0)) w.told ∙ sym (column-push w.walked.block.items k));
+      told = f ∙ (ap (λ b. b || not (eqb k 0)) w.told ∙ sym (column_push w.walked.block.items k));
     }
 
-pub columns-all : (columns : ℕ) (s : List ℕ) (p l k : ℕ) (t : List ℕ) (q m : ℕ) (table : Bool) (n : ℕ) → Columns columns s p l k t q m table → k ≡ n → (b : Block param_line (GoodParam columns) s p n q) × (table ≡ names_column b.items) × (m ≡ l + n)
-columns-all columns s p l k t q m table n w e =
+pub columns_all : (columns : ℕ) (s : List ℕ) (p l k : ℕ) (t : List ℕ) (q m : ℕ) (table : Bool) (n : ℕ) → Columns columns s p l k t q m table → k ≡ n → (b : Block param_line (GoodParam columns) s p n q) × (table ≡ names_column b.items) × (m ≡ l + n)
+columns_all columns s p l k t q m table n w e =
     subst (λ z. (b : Block param_line (GoodParam columns) s p z q) × (table ≡ names_column b.items) × (m ≡ l + z)) e (w.walked.block, w.told, w.walked.line)
 
 -- Outcomes.
-pub together-append : (xs ys : List (List ℕ)) → together (xs ++ ys) ≡ together xs ++ together ys
-together-append [] ys = refl
-together-append (x ∷ xs) ys = ap (λ l. x ++ l) (together-append xs ys) ∙ sym (append_assoc x (together xs) (together ys))
+pub together_append : (xs ys : List (List ℕ)) → together (xs ++ ys) ≡ together xs ++ together ys
+together_append [] ys = refl
+together_append (x ∷ xs) ys = ap (λ l. x ++ l) (together_append xs ys) ∙ sym (append_assoc x (together xs) (together ys))
 
-lines-push : (os : List Outcome) (o : Outcome) → flat_map outcome_lines (os ++ (o ∷ [])) ≡ flat_map outcome_lines os ++ outcome_lines o
-lines-push [] o = append-nil (outcome_lines o)
-lines-push (x ∷ os) o = ap (λ l. outcome_lines x ++ l) (lines-push os o) ∙ sym (append_assoc (outcome_lines x) (flat_map outcome_lines os) (outcome_lines o))
+lines_push : (os : List Outcome) (o : Outcome) → flat_map outcome_lines (os ++ (o ∷ [])) ≡ flat_map outcome_lines os ++ outcome_lines o
+lines_push [] o = append-nil (outcome_lines o)
+lines_push (x ∷ os) o = ap (λ l. outcome_lines x ++ l) (lines_push os o) ∙ sym (append_assoc (outcome_lines x) (flat_map outcome_lines os) (outcome_lines o))
 
-bytes-push : (os : List Outcome) (o : Outcome) → together (flat_map outcome_lines (os ++ (o ∷ []))) ≡ together (flat_map outcome_lines os) ++ together (outcome_lines o)
-bytes-push os o = ap together (lines-push os o) ∙ together-append (flat_map outcome_lines os) (outcome_lines o)
+bytes_push : (os : List Outcome) (o : Outcome) → together (flat_map outcome_lines (os ++ (o ∷ []))) ≡ together (flat_map outcome_lines os) ++ together (outcome_lines o)
+bytes_push os o = ap together (lines_push os o) ∙ together_append (flat_map outcome_lines os) (outcome_lines o)
 
 -- Outcomes were read from place p and line l on, and the reader is at place q and line m of the bytes t, which are still s.
 pub record Going (s : List ℕ) (columns : ℕ) (table : Bool) (p l : ℕ) (t : List ℕ) (q m : ℕ) : Type 0 where
@@ -157,18 +157,18 @@ pub record Going (s : List ℕ) (columns : ℕ) (table : Bool) (p l : ℕ) (t : 
   pub line : m ≡ l + length (flat_map outcome_lines read.items)
   pub same : t ≡ s
 
-pub going-none : (s : List ℕ) (columns : ℕ) (table : Bool) (p l : ℕ) → p ≤ length s → Going s columns table p l s p l
-going-none s columns table p l h = record { read = record { items = []; good = tt; suits = tt; begins = refl; size = omega arith; within = h }; line = omega arith; same = refl }
+pub going_none : (s : List ℕ) (columns : ℕ) (table : Bool) (p l : ℕ) → p ≤ length s → Going s columns table p l s p l
+going_none s columns table p l h = record { read = record { items = []; good = tt; suits = tt; begins = refl; size = omega arith; within = h }; line = omega arith; same = refl }
 
 -- One more outcome, of so many lines.
 more : (s : List ℕ) (columns : ℕ) (table : Bool) (p l : ℕ) (t : List ℕ) (q m : ℕ) (o : Outcome) (u : List ℕ) (r k : ℕ) → Going s columns table p l t q m → GoodOutcome columns o → Suits table o → drop q s ≡ together (outcome_lines o) ++ drop r s → r ≡ q + length (together (outcome_lines o)) → r ≤ length s → k ≡ m + length (outcome_lines o) → u ≡ s → Going s columns table p l u r k
 more s columns table p l t q m o u r k g good suits e size within line same =
     let x = g.read in
     let a = x.begins in
-    let j = bytes-push x.items o in
+    let j = bytes_push x.items o in
     let c = append_assoc (together (flat_map outcome_lines x.items)) (together (outcome_lines o)) (drop r s) in
     let lj = ap length j ∙ length-append (together (flat_map outcome_lines x.items)) (together (outcome_lines o)) in
-    let lp = ap length (lines-push x.items o) ∙ length-append (flat_map outcome_lines x.items) (outcome_lines o) in
+    let lp = ap length (lines_push x.items o) ∙ length-append (flat_map outcome_lines x.items) (outcome_lines o) in
     let z = x.size in
     let i = g.line in
     record {
@@ -183,8 +183,8 @@ going_done s columns table p l t q m u r k g x e =
     let line = y.line in
     more s columns table p l t q m done u r k g tt y.good.0 y.begins y.size y.within (omega arith) (e ∙ g.same)
 
-pub going-failed : (s : List ℕ) (columns : ℕ) (table : Bool) (p l : ℕ) (t : List ℕ) (q m code : ℕ) (u : List ℕ) (r k : ℕ) → Going s columns table p l t q m → Moved head_line (GoodHead table) t q m (Failed code) r k → u ≡ t → Going s columns table p l u r k
-going-failed s columns table p l t q m code u r k g x e =
+pub going_failed : (s : List ℕ) (columns : ℕ) (table : Bool) (p l : ℕ) (t : List ℕ) (q m code : ℕ) (u : List ℕ) (r k : ℕ) → Going s columns table p l t q m → Moved head_line (GoodHead table) t q m (Failed code) r k → u ≡ t → Going s columns table p l u r k
+going_failed s columns table p l t q m code u r k g x e =
     let y : Moved head_line (GoodHead table) s q m (Failed code) r k = subst (λ z. Moved head_line (GoodHead table) z q m (Failed code) r k) g.same x in
     let line = y.line in
     let a = append-nil (head_line (Failed code)) in
@@ -193,16 +193,16 @@ going-failed s columns table p l t q m code u r k g x e =
     let la = ap length a in
     more s columns table p l t q m (failed code) u r k g y.good.1 y.good.0 (cc) (omega arith) y.within (omega arith) (e ∙ g.same)
 
-pub together-values : (vs : List Value) → together (map value_line vs) ≡ flat_map value_line vs
-together-values [] = refl
-together-values (v ∷ vs) = ap (λ l. value_line v ++ l) (together-values vs)
+pub together_values : (vs : List Value) → together (map value_line vs) ≡ flat_map value_line vs
+together_values [] = refl
+together_values (v ∷ vs) = ap (λ l. value_line v ++ l) (together_values vs)
 
-pub going-row : (s : List ℕ) (columns : ℕ) (table : Bool) (p l : ℕ) (t : List ℕ) (q m : ℕ) (t' : List ℕ) (q' m' : ℕ) (u : List ℕ) (r k : ℕ) → Going s columns table p l t q m → Moved head_line (GoodHead table) t q m Row q' m' → t' ≡ t → Block value_line GoodValue t' q' columns r → k ≡ m' + columns → u ≡ t' → Going s columns table p l u r k
-going-row s columns table p l t q m t' q' m' u r k g x e b line f =
+pub going_row : (s : List ℕ) (columns : ℕ) (table : Bool) (p l : ℕ) (t : List ℕ) (q m : ℕ) (t' : List ℕ) (q' m' : ℕ) (u : List ℕ) (r k : ℕ) → Going s columns table p l t q m → Moved head_line (GoodHead table) t q m Row q' m' → t' ≡ t → Block value_line GoodValue t' q' columns r → k ≡ m' + columns → u ≡ t' → Going s columns table p l u r k
+going_row s columns table p l t q m t' q' m' u r k g x e b line f =
     let y : Moved head_line (GoodHead table) s q m Row q' m' = subst (λ z. Moved head_line (GoodHead table) z q m Row q' m') g.same x in
     let b' : Block value_line GoodValue s q' columns r = subst (λ z. Block value_line GoodValue z q' columns r) (e ∙ g.same) b in
     let vs = b'.items in
-    let tv = together-values vs in
+    let tv = together_values vs in
     let yb = y.begins in
     let bb = b'.begins in
     let lt = ap length tv in
@@ -214,12 +214,12 @@ going-row s columns table p l t q m t' q' m' u r k g x e b line f =
     let n : drop q s ≡ 82 ∷ (10 ∷ (together (map value_line vs) ++ drop r s)) = cc in
     more s columns table p l t q m (row vs) u r k g (b'.many, b'.good) tt n (omega arith) b'.within (omega arith) (f ∙ (e ∙ g.same))
 
-pub going-ends : (s : List ℕ) (columns : ℕ) (table : Bool) (p l : ℕ) (t : List ℕ) (q m : ℕ) (r k : ℕ) → Going s columns table p l t q m → Moved head_line (GoodHead table) t q m End r k → Ended s columns table p r
-going-ends s columns table p l t q m r k g x =
+pub going_ends : (s : List ℕ) (columns : ℕ) (table : Bool) (p l : ℕ) (t : List ℕ) (q m : ℕ) (r k : ℕ) → Going s columns table p l t q m → Moved head_line (GoodHead table) t q m End r k → Ended s columns table p r
+going_ends s columns table p l t q m r k g x =
     let y : Moved head_line (GoodHead table) s q m End r k = subst (λ z. Moved head_line (GoodHead table) z q m End r k) g.same x in
     let o = g.read in
     let ls = flat_map outcome_lines o.items in
-    let ta = together-append ls ((69 ∷ (10 ∷ [])) ∷ []) in
+    let ta = together_append ls ((69 ∷ (10 ∷ [])) ∷ []) in
     let a = append_assoc (together ls) (69 ∷ (10 ∷ [])) (drop r s) in
     let ob = o.begins in
     let yb = y.begins in
@@ -228,13 +228,13 @@ going-ends s columns table p l t q m r k g x =
     let z2 = y.size in
     record { items = o.items; good = o.good; suits = o.suits; begins = cc; size = omega arith; within = y.within }
 
-pub going-stuck : (s : List ℕ) (columns : ℕ) (table : Bool) (p l : ℕ) (t : List ℕ) (q m bad : ℕ) → Going s columns table p l t q m → Stuck head_line (GoodHead table) t q m bad → OutcomesBreak s columns table p l bad
-going-stuck s columns table p l t q m bad g x =
+pub going_stuck : (s : List ℕ) (columns : ℕ) (table : Bool) (p l : ℕ) (t : List ℕ) (q m bad : ℕ) → Going s columns table p l t q m → Stuck head_line (GoodHead table) t q m bad → OutcomesBreak s columns table p l bad
+going_stuck s columns table p l t q m bad g x =
     let y : Stuck head_line (GoodHead table) s q m bad = subst (λ z. Stuck head_line (GoodHead table) z q m bad) g.same x in
     record { next = q; front = g.read; stuck = inl (record { line = y.line ∙ g.line; lacks = y.lacks }) }
 
-pub going-short : (s : List ℕ) (columns : ℕ) (table : Bool) (p l : ℕ) (t : List ℕ) (q m : ℕ) (t' : List ℕ) (q' m' bad : ℕ) → Going s columns table p l t q m → Moved head_line (GoodHead table) t q m Row q' m' → t' ≡ t → Breaks value_line GoodValue t' q' m' columns bad → OutcomesBreak s columns table p l bad
-going-short s columns table p l t q m t' q' m' bad g x e b =
+pub going_short : (s : List ℕ) (columns : ℕ) (table : Bool) (p l : ℕ) (t : List ℕ) (q m : ℕ) (t' : List ℕ) (q' m' bad : ℕ) → Going s columns table p l t q m → Moved head_line (GoodHead table) t q m Row q' m' → t' ≡ t → Breaks value_line GoodValue t' q' m' columns bad → OutcomesBreak s columns table p l bad
+going_short s columns table p l t q m t' q' m' bad g x e b =
     let y : Moved head_line (GoodHead table) s q m Row q' m' = subst (λ z. Moved head_line (GoodHead table) z q m Row q' m') g.same x in
     let n : m' ≡ l + length (flat_map outcome_lines g.read.items) + 1 = y.line ∙ ap (λ z. z + 1) g.line in
     let b' : Breaks value_line GoodValue s q' (l + length (flat_map outcome_lines g.read.items) + 1) columns bad = subst (λ z. Breaks value_line GoodValue s q' z columns bad) n (subst (λ z. Breaks value_line GoodValue z q' m' columns bad) (e ∙ g.same) b) in

@@ -2,12 +2,12 @@
 -- Two runs over the same bytes agree; every run is the front of some content's lines; every content runs to its end.
 use Rattle.std.proofs.Common.{◌≡◌, ℕ, zero, suc, ◌-◌, ◌^◌, ◌<◌, ◌≤◌, Bool, true, false, not, ◌||◌, eqb, List, [], ◌∷◌, ◌++◌, map, length, get_or, take, replicate, decimal, sym, refl, ap, ◌∙◌, subst, append_assoc, arith}
 use Rattle.std.specs.Fmt.{signed_decimal}
-use Rattle.std.specs.List.{flat_map, AllByRecursion as All}
+use Rattle.std.specs.List.{flat_map, AllByRecursion}
 use Rattle.std.proofs.lemmas.List.{nil_from_length, length-replicate}
 use Rattle.values.specs.Value.{Value, null, long, double, text, blob}
 use Rattle.host.specs.Outcome.{Outcome, row, done, failed}
-use Rattle.figures.proofs.Steps.{figure-free, piece-free, number-free}
-use Rattle.sheet.proofs.Parts.{flat-stop, flat-piece, head-is}
+use Rattle.figures.proofs.Steps.{figure_free, piece_free, number_free}
+use Rattle.sheet.proofs.Parts.{flat_stop, flat_piece, head_is}
 use Rattle.sheet.specs.Sheet.{name_line, piece_line, param_line, value_line, GoodName, GoodParam, GoodValue, GoodOutcome, names_column, Suits}
 use Rattle.sheet.specs.Lines.{head_line, PlainHead, GoodHead}
 use Rattle.sheet.specs.declared.lines.Head.{Head}
@@ -61,93 +61,93 @@ next c l (value v) = more (left l.names l.params (l.values - 1) l.table)
 next c l (head h) = after_head c l.table h
 
 -- Lines are read in one way.
-two-less : (a b c d : ℕ) (r t : List ℕ) → a ∷ (b ∷ r) ≡ c ∷ (d ∷ t) → r ≡ t
-two-less a b c d r t e = cc
+two_less : (a b c d : ℕ) (r t : List ℕ) → a ∷ (b ∷ r) ≡ c ∷ (d ∷ t) → r ≡ t
+two_less a b c d r t e = cc
 
 pieces : (b d r t : List ℕ) → length b < 2 ^ 64 → length d < 2 ^ 64 → piece_line b ++ r ≡ piece_line d ++ t → (b ≡ d) × (r ≡ t)
-pieces b d r t hb hd e = piece-free b d r t hb hd (sym (flat-piece (decimal (length b)) b r) ∙ (e ∙ flat-piece (decimal (length d)) d t))
+pieces b d r t hb hd e = piece_free b d r t hb hd (sym (flat_piece (decimal (length b)) b r) ∙ (e ∙ flat_piece (decimal (length d)) d t))
 
 figures : (m n : ℕ) (r t : List ℕ) → m < 2 ^ 64 → n < 2 ^ 64 → (decimal m ++ (10 ∷ [])) ++ r ≡ (decimal n ++ (10 ∷ [])) ++ t → (m ≡ n) × (r ≡ t)
 figures m n r t hm hn e =
-    let k = figure-free m n 10 10 r t hm hn (omega arith) (omega arith) (sym (flat-stop (decimal m) r) ∙ (e ∙ flat-stop (decimal n) t)) in
+    let k = figure_free m n 10 10 r t hm hn (omega arith) (omega arith) (sym (flat_stop (decimal m) r) ∙ (e ∙ flat_stop (decimal n) t)) in
     (k.figures, k.rests)
 
 pub name_free : (b d : List ℕ) (r t : List ℕ) → GoodName b → GoodName d → name_line b ++ r ≡ name_line d ++ t → (b ≡ d) × (r ≡ t)
 name_free b d r t f g e =
     let a = f.1 in
     let h = g.1 in
-    pieces b d r t (omega arith) (omega arith) (two-less _ _ _ _ _ _ e)
+    pieces b d r t (omega arith) (omega arith) (two_less _ _ _ _ _ _ e)
 
-pub value-free : (x y : Value) (r t : List ℕ) → GoodValue x → GoodValue y → value_line x ++ r ≡ value_line y ++ t → (x ≡ y) × (r ≡ t)
-value-free null null r t f g e = (refl, two-less _ _ _ _ _ _ e)
-value-free null (long z) r t f g e = absurd (omega (arith, head-is _ _ _ _ e))
-value-free null (double n) r t f g e = absurd (omega (arith, head-is _ _ _ _ e))
-value-free null (text d) r t f g e = absurd (omega (arith, head-is _ _ _ _ e))
-value-free null (blob d) r t f g e = absurd (omega (arith, head-is _ _ _ _ e))
-value-free (long y) null r t f g e = absurd (omega (arith, head-is _ _ _ _ e))
-value-free (long y) (long z) r t f g e =
-    let n = number-free y z 10 r t (omega arith) f g (sym (flat-stop (signed_decimal y) r) ∙ (two-less _ _ _ _ _ _ e ∙ flat-stop (signed_decimal z) t)) in (ap long n.0, n.1)
-value-free (long y) (double n) r t f g e = absurd (omega (arith, head-is _ _ _ _ e))
-value-free (long y) (text d) r t f g e = absurd (omega (arith, head-is _ _ _ _ e))
-value-free (long y) (blob d) r t f g e = absurd (omega (arith, head-is _ _ _ _ e))
-value-free (double m) null r t f g e = absurd (omega (arith, head-is _ _ _ _ e))
-value-free (double m) (long z) r t f g e = absurd (omega (arith, head-is _ _ _ _ e))
-value-free (double m) (double n) r t f g e = let k = figures m n r t f.0 g.0 (two-less _ _ _ _ _ _ e) in (ap double k.0, k.1)
-value-free (double m) (text d) r t f g e = absurd (omega (arith, head-is _ _ _ _ e))
-value-free (double m) (blob d) r t f g e = absurd (omega (arith, head-is _ _ _ _ e))
-value-free (text b) null r t f g e = absurd (omega (arith, head-is _ _ _ _ e))
-value-free (text b) (long z) r t f g e = absurd (omega (arith, head-is _ _ _ _ e))
-value-free (text b) (double n) r t f g e = absurd (omega (arith, head-is _ _ _ _ e))
-value-free (text b) (text d) r t f g e = let n = pieces b d r t (omega arith) (omega arith) (two-less _ _ _ _ _ _ e) in (ap text n.0, n.1)
-value-free (text b) (blob d) r t f g e = absurd (omega (arith, head-is _ _ _ _ e))
-value-free (blob b) null r t f g e = absurd (omega (arith, head-is _ _ _ _ e))
-value-free (blob b) (long z) r t f g e = absurd (omega (arith, head-is _ _ _ _ e))
-value-free (blob b) (double n) r t f g e = absurd (omega (arith, head-is _ _ _ _ e))
-value-free (blob b) (text d) r t f g e = absurd (omega (arith, head-is _ _ _ _ e))
-value-free (blob b) (blob d) r t f g e = let n = pieces b d r t (omega arith) (omega arith) (two-less _ _ _ _ _ _ e) in (ap blob n.0, n.1)
+pub value_free : (x y : Value) (r t : List ℕ) → GoodValue x → GoodValue y → value_line x ++ r ≡ value_line y ++ t → (x ≡ y) × (r ≡ t)
+value_free null null r t f g e = (refl, two_less _ _ _ _ _ _ e)
+value_free null (long z) r t f g e = absurd (omega (arith, head_is _ _ _ _ e))
+value_free null (double n) r t f g e = absurd (omega (arith, head_is _ _ _ _ e))
+value_free null (text d) r t f g e = absurd (omega (arith, head_is _ _ _ _ e))
+value_free null (blob d) r t f g e = absurd (omega (arith, head_is _ _ _ _ e))
+value_free (long y) null r t f g e = absurd (omega (arith, head_is _ _ _ _ e))
+value_free (long y) (long z) r t f g e =
+    let n = number_free y z 10 r t (omega arith) f g (sym (flat_stop (signed_decimal y) r) ∙ (two_less _ _ _ _ _ _ e ∙ flat_stop (signed_decimal z) t)) in (ap long n.0, n.1)
+value_free (long y) (double n) r t f g e = absurd (omega (arith, head_is _ _ _ _ e))
+value_free (long y) (text d) r t f g e = absurd (omega (arith, head_is _ _ _ _ e))
+value_free (long y) (blob d) r t f g e = absurd (omega (arith, head_is _ _ _ _ e))
+value_free (double m) null r t f g e = absurd (omega (arith, head_is _ _ _ _ e))
+value_free (double m) (long z) r t f g e = absurd (omega (arith, head_is _ _ _ _ e))
+value_free (double m) (double n) r t f g e = let k = figures m n r t f.0 g.0 (two_less _ _ _ _ _ _ e) in (ap double k.0, k.1)
+value_free (double m) (text d) r t f g e = absurd (omega (arith, head_is _ _ _ _ e))
+value_free (double m) (blob d) r t f g e = absurd (omega (arith, head_is _ _ _ _ e))
+value_free (text b) null r t f g e = absurd (omega (arith, head_is _ _ _ _ e))
+value_free (text b) (long z) r t f g e = absurd (omega (arith, head_is _ _ _ _ e))
+value_free (text b) (double n) r t f g e = absurd (omega (arith, head_is _ _ _ _ e))
+value_free (text b) (text d) r t f g e = let n = pieces b d r t (omega arith) (omega arith) (two_less _ _ _ _ _ _ e) in (ap text n.0, n.1)
+value_free (text b) (blob d) r t f g e = absurd (omega (arith, head_is _ _ _ _ e))
+value_free (blob b) null r t f g e = absurd (omega (arith, head_is _ _ _ _ e))
+value_free (blob b) (long z) r t f g e = absurd (omega (arith, head_is _ _ _ _ e))
+value_free (blob b) (double n) r t f g e = absurd (omega (arith, head_is _ _ _ _ e))
+value_free (blob b) (text d) r t f g e = absurd (omega (arith, head_is _ _ _ _ e))
+value_free (blob b) (blob d) r t f g e = let n = pieces b d r t (omega arith) (omega arith) (two_less _ _ _ _ _ _ e) in (ap blob n.0, n.1)
 
-pub head-free : (x y : Head) (r t : List ℕ) → PlainHead x → PlainHead y → head_line x ++ r ≡ head_line y ++ t → (x ≡ y) × (r ≡ t)
-head-free Row Row r t f g e = (refl, two-less _ _ _ _ _ _ e)
-head-free Row Done r t f g e = absurd (omega (arith, head-is _ _ _ _ e))
-head-free Row (Failed n) r t f g e = absurd (omega (arith, head-is _ _ _ _ e))
-head-free Row End r t f g e = absurd (omega (arith, head-is _ _ _ _ e))
-head-free Done Row r t f g e = absurd (omega (arith, head-is _ _ _ _ e))
-head-free Done Done r t f g e = (refl, two-less _ _ _ _ _ _ e)
-head-free Done (Failed n) r t f g e = absurd (omega (arith, head-is _ _ _ _ e))
-head-free Done End r t f g e = absurd (omega (arith, head-is _ _ _ _ e))
-head-free (Failed m) Row r t f g e = absurd (omega (arith, head-is _ _ _ _ e))
-head-free (Failed m) Done r t f g e = absurd (omega (arith, head-is _ _ _ _ e))
-head-free (Failed m) (Failed n) r t f g e =
+pub head_free : (x y : Head) (r t : List ℕ) → PlainHead x → PlainHead y → head_line x ++ r ≡ head_line y ++ t → (x ≡ y) × (r ≡ t)
+head_free Row Row r t f g e = (refl, two_less _ _ _ _ _ _ e)
+head_free Row Done r t f g e = absurd (omega (arith, head_is _ _ _ _ e))
+head_free Row (Failed n) r t f g e = absurd (omega (arith, head_is _ _ _ _ e))
+head_free Row End r t f g e = absurd (omega (arith, head_is _ _ _ _ e))
+head_free Done Row r t f g e = absurd (omega (arith, head_is _ _ _ _ e))
+head_free Done Done r t f g e = (refl, two_less _ _ _ _ _ _ e)
+head_free Done (Failed n) r t f g e = absurd (omega (arith, head_is _ _ _ _ e))
+head_free Done End r t f g e = absurd (omega (arith, head_is _ _ _ _ e))
+head_free (Failed m) Row r t f g e = absurd (omega (arith, head_is _ _ _ _ e))
+head_free (Failed m) Done r t f g e = absurd (omega (arith, head_is _ _ _ _ e))
+head_free (Failed m) (Failed n) r t f g e =
     let a = f.1 in
     let b = g.1 in
-    let k = figures m n r t (omega arith) (omega arith) (two-less _ _ _ _ _ _ e) in
+    let k = figures m n r t (omega arith) (omega arith) (two_less _ _ _ _ _ _ e) in
     (ap Failed k.0, k.1)
-head-free (Failed m) End r t f g e = absurd (omega (arith, head-is _ _ _ _ e))
-head-free End Row r t f g e = absurd (omega (arith, head-is _ _ _ _ e))
-head-free End Done r t f g e = absurd (omega (arith, head-is _ _ _ _ e))
-head-free End (Failed n) r t f g e = absurd (omega (arith, head-is _ _ _ _ e))
-head-free End End r t f g e = (refl, two-less _ _ _ _ _ _ e)
+head_free (Failed m) End r t f g e = absurd (omega (arith, head_is _ _ _ _ e))
+head_free End Row r t f g e = absurd (omega (arith, head_is _ _ _ _ e))
+head_free End Done r t f g e = absurd (omega (arith, head_is _ _ _ _ e))
+head_free End (Failed n) r t f g e = absurd (omega (arith, head_is _ _ _ _ e))
+head_free End End r t f g e = (refl, two_less _ _ _ _ _ _ e)
 
-line-free : (c : ℕ) (l : Left) (x y : Line) (r t : List ℕ) → c < 2 ^ 64 → Fits c l x → Fits c l y → written x ++ r ≡ written y ++ t → (x ≡ y) × (r ≡ t)
-line-free c l (name b) (name d) r t w f g e = let n = name_free b d r t f.1 g.1 e in (ap name n.0, n.1)
-line-free c l (name b) (param k) r t w f g e = absurd (omega (arith, f.0, g.0))
-line-free c l (name b) (value v) r t w f g e = absurd (omega (arith, f.0, g.0))
-line-free c l (name b) (head h) r t w f g e = absurd (omega (arith, f.0, g.0))
-line-free c l (param j) (name d) r t w f g e = absurd (omega (arith, f.0, g.0))
-line-free c l (param j) (param k) r t w f g e =
+line_free : (c : ℕ) (l : Left) (x y : Line) (r t : List ℕ) → c < 2 ^ 64 → Fits c l x → Fits c l y → written x ++ r ≡ written y ++ t → (x ≡ y) × (r ≡ t)
+line_free c l (name b) (name d) r t w f g e = let n = name_free b d r t f.1 g.1 e in (ap name n.0, n.1)
+line_free c l (name b) (param k) r t w f g e = absurd (omega (arith, f.0, g.0))
+line_free c l (name b) (value v) r t w f g e = absurd (omega (arith, f.0, g.0))
+line_free c l (name b) (head h) r t w f g e = absurd (omega (arith, f.0, g.0))
+line_free c l (param j) (name d) r t w f g e = absurd (omega (arith, f.0, g.0))
+line_free c l (param j) (param k) r t w f g e =
     let a = f.2 in
     let h = g.2 in
-    let n = figures j k r t (omega arith) (omega arith) (two-less _ _ _ _ _ _ e) in (ap param n.0, n.1)
-line-free c l (param j) (value v) r t w f g e = absurd (omega (arith, f.1, g.1))
-line-free c l (param j) (head h) r t w f g e = absurd (omega (arith, f.1, g.1))
-line-free c l (value v) (name d) r t w f g e = absurd (omega (arith, f.0, g.0))
-line-free c l (value v) (param k) r t w f g e = absurd (omega (arith, f.1, g.1))
-line-free c l (value v) (value x) r t w f g e = let n = value-free v x r t f.3 g.3 e in (ap value n.0, n.1)
-line-free c l (value v) (head h) r t w f g e = absurd (omega (arith, f.2, g.2))
-line-free c l (head h) (name d) r t w f g e = absurd (omega (arith, f.0, g.0))
-line-free c l (head h) (param k) r t w f g e = absurd (omega (arith, f.1, g.1))
-line-free c l (head h) (value x) r t w f g e = absurd (omega (arith, f.2, g.2))
-line-free c l (head h) (head k) r t w f g e = let n = head-free h k r t f.3.1 g.3.1 e in (ap head n.0, n.1)
+    let n = figures j k r t (omega arith) (omega arith) (two_less _ _ _ _ _ _ e) in (ap param n.0, n.1)
+line_free c l (param j) (value v) r t w f g e = absurd (omega (arith, f.1, g.1))
+line_free c l (param j) (head h) r t w f g e = absurd (omega (arith, f.1, g.1))
+line_free c l (value v) (name d) r t w f g e = absurd (omega (arith, f.0, g.0))
+line_free c l (value v) (param k) r t w f g e = absurd (omega (arith, f.1, g.1))
+line_free c l (value v) (value x) r t w f g e = let n = value_free v x r t f.3 g.3 e in (ap value n.0, n.1)
+line_free c l (value v) (head h) r t w f g e = absurd (omega (arith, f.2, g.2))
+line_free c l (head h) (name d) r t w f g e = absurd (omega (arith, f.0, g.0))
+line_free c l (head h) (param k) r t w f g e = absurd (omega (arith, f.1, g.1))
+line_free c l (head h) (value x) r t w f g e = absurd (omega (arith, f.2, g.2))
+line_free c l (head h) (head k) r t w f g e = let n = head_free h k r t f.3.1 g.3.1 e in (ap head n.0, n.1)
 
 -- The lines lead from one state to the other.
 abbrev pub Runs : ℕ → Want → List Line → Want → Type 0
@@ -160,11 +160,11 @@ runs_append c p m q [] ys a b = subst (λ z. Runs c z ys q) (sym a) b
 runs_append c nothing m q (x ∷ xs) ys a b = absurd a
 runs_append c (more l) m q (x ∷ xs) ys a b = (a.0, runs_append c (next c l x) m q xs ys a.1 b)
 
-pub runs-take : (c : ℕ) (q m : Want) (xs : List Line) (n : ℕ) → Runs c q xs m → (k : Want) × Runs c q (take n xs) k
-runs-take c q m xs zero r = (q, refl)
-runs-take c q m [] (suc n) r = (q, refl)
-runs-take c nothing m (x ∷ xs) (suc n) r = absurd r
-runs-take c (more l) m (x ∷ xs) (suc n) r = let k = runs-take c (next c l x) m xs n r.1 in (k.0, (r.0, k.1))
+pub runs_take : (c : ℕ) (q m : Want) (xs : List Line) (n : ℕ) → Runs c q xs m → (k : Want) × Runs c q (take n xs) k
+runs_take c q m xs zero r = (q, refl)
+runs_take c q m [] (suc n) r = (q, refl)
+runs_take c nothing m (x ∷ xs) (suc n) r = absurd r
+runs_take c (more l) m (x ∷ xs) (suc n) r = let k = runs_take c (next c l x) m xs n r.1 in (k.0, (r.0, k.1))
 
 pub record Followed (c : ℕ) (m q : Want) (xs ys : List Line) (r t : List ℕ) : Type 0 where
   pub rest : List Line
@@ -179,7 +179,7 @@ follow c nothing m q (x ∷ xs) (y ∷ ys) r t w a b h e = absurd a
 follow c (more l) m q (x ∷ xs) (y ∷ ys) r t w a b h e =
     let i = append_assoc (written x) (flat_map written xs) r in
     let j = append_assoc (written y) (flat_map written ys) t in
-    let f = line-free c l x y (flat_map written xs ++ r) (flat_map written ys ++ t) w a.0 b.0 (sym i ∙ (e ∙ j)) in
+    let f = line_free c l x y (flat_map written xs ++ r) (flat_map written ys ++ t) w a.0 b.0 (sym i ∙ (e ∙ j)) in
     let b' : Runs c (next c l x) ys q = subst (λ z. Runs c (next c l z) ys q) (sym f.0) b.1 in
     let n = follow c (next c l x) m q xs ys r t w a.1 b' (omega arith) f.1 in
     let k = f.0 in
@@ -195,54 +195,54 @@ heads (failed code) = head (Failed code) ∷ []
 abbrev pub tail_lines : List (List ℕ) → List ℕ → List Value → List Outcome → List Line
 tail_lines ns ps vs os = map name ns ++ (map param ps ++ (map value vs ++ (flat_map heads os ++ (head End ∷ []))))
 
-pub names-run : (c t p v : ℕ) (b : Bool) (ns : List (List ℕ)) → length ns ≤ t → All GoodName ns → Runs c (more (left t p v b)) (map name ns) (more (left (t - length ns) p v b))
-names-run c t p v b [] h g = let e : t - 0 ≡ t = omega arith in rw e refl
-names-run c t p v b (n ∷ ns) h g =
+pub names_run : (c t p v : ℕ) (b : Bool) (ns : List (List ℕ)) → length ns ≤ t → AllByRecursion GoodName ns → Runs c (more (left t p v b)) (map name ns) (more (left (t - length ns) p v b))
+names_run c t p v b [] h g = let e : t - 0 ≡ t = omega arith in rw e refl
+names_run c t p v b (n ∷ ns) h g =
     let e : t - 1 - length ns ≡ t - suc (length ns) = omega arith in
-    let i = names-run c (t - 1) p v b ns (omega arith) g.1 in
+    let i = names_run c (t - 1) p v b ns (omega arith) g.1 in
     ((omega arith, g.0), subst (λ z. Runs c (more (left (t - 1) p v b)) (map name ns) (more (left z p v b))) e i)
 
 or_assoc : (a b d : Bool) → ((a || b) || d) ≡ (a || (b || d))
 or_assoc true b d = refl
 or_assoc false b d = refl
 
-or-false : (a : Bool) → (a || false) ≡ a
-or-false true = refl
-or-false false = refl
+or_false : (a : Bool) → (a || false) ≡ a
+or_false true = refl
+or_false false = refl
 
-pub params-run : (c t v : ℕ) (b : Bool) (ps : List ℕ) → length ps ≤ t → All (GoodParam c) ps → Runs c (more (left 0 t v b)) (map param ps) (more (left 0 (t - length ps) v (b || names_column ps)))
-params-run c t v b [] h g = let e : t - 0 ≡ t = omega arith in let f = or-false b in let k : left 0 t v b ≡ left 0 (t - 0) v (b || false) = cc in ap more k
-params-run c t v b (p ∷ ps) h g =
+pub params_run : (c t v : ℕ) (b : Bool) (ps : List ℕ) → length ps ≤ t → AllByRecursion (GoodParam c) ps → Runs c (more (left 0 t v b)) (map param ps) (more (left 0 (t - length ps) v (b || names_column ps)))
+params_run c t v b [] h g = let e : t - 0 ≡ t = omega arith in let f = or_false b in let k : left 0 t v b ≡ left 0 (t - 0) v (b || false) = cc in ap more k
+params_run c t v b (p ∷ ps) h g =
     let e : t - 1 - length ps ≡ t - suc (length ps) = omega arith in
-    let i = params-run c (t - 1) v (b || not (eqb p 0)) ps (omega arith) g.1 in
+    let i = params_run c (t - 1) v (b || not (eqb p 0)) ps (omega arith) g.1 in
     let j = subst (λ z. Runs c (more (left 0 (t - 1) v (b || not (eqb p 0)))) (map param ps) (more (left 0 z v ((b || not (eqb p 0)) || names_column ps)))) e i in
     ((refl, omega arith, g.0), subst (λ z. Runs c (more (left 0 (t - 1) v (b || not (eqb p 0)))) (map param ps) (more (left 0 (t - suc (length ps)) v z))) (or_assoc b (not (eqb p 0)) (names_column ps)) j)
 
-pub values-run : (c t : ℕ) (b : Bool) (vs : List Value) → length vs ≤ t → All GoodValue vs → Runs c (more (left 0 0 t b)) (map value vs) (more (left 0 0 (t - length vs) b))
-values-run c t b [] h g = let e : t - 0 ≡ t = omega arith in rw e refl
-values-run c t b (v ∷ vs) h g =
+pub values_run : (c t : ℕ) (b : Bool) (vs : List Value) → length vs ≤ t → AllByRecursion GoodValue vs → Runs c (more (left 0 0 t b)) (map value vs) (more (left 0 0 (t - length vs) b))
+values_run c t b [] h g = let e : t - 0 ≡ t = omega arith in rw e refl
+values_run c t b (v ∷ vs) h g =
     let e : t - 1 - length vs ≡ t - suc (length vs) = omega arith in
-    let i = values-run c (t - 1) b vs (omega arith) g.1 in
+    let i = values_run c (t - 1) b vs (omega arith) g.1 in
     ((refl, refl, omega arith, g.0), subst (λ z. Runs c (more (left 0 0 (t - 1) b)) (map value vs) (more (left 0 0 z b))) e i)
 
-pub outcomes-run : (c : ℕ) (b : Bool) (os : List Outcome) → All (GoodOutcome c) os → All (Suits b) os → Runs c (more (left 0 0 0 b)) (flat_map heads os) (more (left 0 0 0 b))
-outcomes-run c b [] g u = refl
-outcomes-run c b (row vs ∷ os) g u =
+pub outcomes_run : (c : ℕ) (b : Bool) (os : List Outcome) → AllByRecursion (GoodOutcome c) os → AllByRecursion (Suits b) os → Runs c (more (left 0 0 0 b)) (flat_map heads os) (more (left 0 0 0 b))
+outcomes_run c b [] g u = refl
+outcomes_run c b (row vs ∷ os) g u =
     let many = g.0.0 in
     let e : c - length vs ≡ 0 = omega arith in
-    let v = subst (λ z. Runs c (more (left 0 0 c b)) (map value vs) (more (left 0 0 z b))) e (values-run c c b vs (omega arith) g.0.1) in
-    ((refl, refl, refl, (tt, tt)), runs_append c (more (left 0 0 c b)) (more (left 0 0 0 b)) (more (left 0 0 0 b)) (map value vs) (flat_map heads os) v (outcomes-run c b os g.1 u.1))
-outcomes-run c b (done ∷ os) g u = ((refl, refl, refl, (u.0, tt)), outcomes-run c b os g.1 u.1)
-outcomes-run c b (failed code ∷ os) g u = ((refl, refl, refl, (u.0, g.0)), outcomes-run c b os g.1 u.1)
+    let v = subst (λ z. Runs c (more (left 0 0 c b)) (map value vs) (more (left 0 0 z b))) e (values_run c c b vs (omega arith) g.0.1) in
+    ((refl, refl, refl, (tt, tt)), runs_append c (more (left 0 0 c b)) (more (left 0 0 0 b)) (more (left 0 0 0 b)) (map value vs) (flat_map heads os) v (outcomes_run c b os g.1 u.1))
+outcomes_run c b (done ∷ os) g u = ((refl, refl, refl, (u.0, tt)), outcomes_run c b os g.1 u.1)
+outcomes_run c b (failed code ∷ os) g u = ((refl, refl, refl, (u.0, g.0)), outcomes_run c b os g.1 u.1)
 
-pub tail-runs : (c : ℕ) (ns : List (List ℕ)) (ps : List ℕ) (os : List Outcome) → All GoodName ns → All (GoodParam c) ps → All (GoodOutcome c) os → All (Suits (names_column ps)) os → Runs c (more (left (length ns) (length ps) 0 false)) (tail_lines ns ps [] os) nothing
-tail-runs c ns ps os f g h u =
+pub tail_runs : (c : ℕ) (ns : List (List ℕ)) (ps : List ℕ) (os : List Outcome) → AllByRecursion GoodName ns → AllByRecursion (GoodParam c) ps → AllByRecursion (GoodOutcome c) os → AllByRecursion (Suits (names_column ps)) os → Runs c (more (left (length ns) (length ps) 0 false)) (tail_lines ns ps [] os) nothing
+tail_runs c ns ps os f g h u =
     let b = names_column ps in
     let en : length ns - length ns ≡ 0 = omega arith in
     let ep : length ps - length ps ≡ 0 = omega arith in
-    let rn = subst (λ z. Runs c (more (left (length ns) (length ps) 0 false)) (map name ns) (more (left z (length ps) 0 false))) en (names-run c (length ns) (length ps) 0 false ns (omega arith) f) in
-    let rp = subst (λ z. Runs c (more (left 0 (length ps) 0 false)) (map param ps) (more (left 0 z 0 b))) ep (params-run c (length ps) 0 false ps (omega arith) g) in
-    let ro = outcomes-run c b os h u in
+    let rn = subst (λ z. Runs c (more (left (length ns) (length ps) 0 false)) (map name ns) (more (left z (length ps) 0 false))) en (names_run c (length ns) (length ps) 0 false ns (omega arith) f) in
+    let rp = subst (λ z. Runs c (more (left 0 (length ps) 0 false)) (map param ps) (more (left 0 z 0 b))) ep (params_run c (length ps) 0 false ps (omega arith) g) in
+    let ro = outcomes_run c b os h u in
     let re : Runs c (more (left 0 0 0 b)) (head End ∷ []) nothing = ((refl, refl, refl, (tt, tt)), refl) in
     let body = runs_append c (more (left 0 0 0 b)) (more (left 0 0 0 b)) nothing (flat_map heads os) (head End ∷ []) ro re in
     let below = runs_append c (more (left 0 (length ps) 0 false)) (more (left 0 0 0 b)) nothing (map param ps) (flat_map heads os ++ (head End ∷ [])) rp body in
@@ -255,27 +255,27 @@ pub record Content (c : ℕ) (l : Left) (xs : List Line) (q : Want) : Type 0 whe
   pub vs : List Value
   pub os : List Outcome
   pub rest : List Line
-  pub many-ns : length ns ≡ l.names
+  pub many_ns : length ns ≡ l.names
   pub many_ps : length ps ≡ l.params
-  pub many-vs : length vs ≡ l.values
-  pub good-ns : All GoodName ns
-  pub good-ps : All (GoodParam c) ps
-  pub good-vs : All GoodValue vs
-  pub good-os : All (GoodOutcome c) os
-  pub suit-os : All (Suits (l.table || names_column ps)) os
+  pub many_vs : length vs ≡ l.values
+  pub good_ns : AllByRecursion GoodName ns
+  pub good_ps : AllByRecursion (GoodParam c) ps
+  pub good_vs : AllByRecursion GoodValue vs
+  pub good_os : AllByRecursion (GoodOutcome c) os
+  pub suit_os : AllByRecursion (Suits (l.table || names_column ps)) os
   pub is : tail_lines ns ps vs os ≡ xs ++ rest
 
-all-copies : {A : Type 0} (P : A → Type 0) (x : A) (n : ℕ) → P x → All P (replicate n x)
-all-copies P x zero h = tt
-all-copies P x (suc n) h = (h, all-copies P x n h)
+all_copies : {A : Type 0} (P : A → Type 0) (x : A) (n : ℕ) → P x → AllByRecursion P (replicate n x)
+all_copies P x zero h = tt
+all_copies P x (suc n) h = (h, all_copies P x n h)
 
 plain : (k : ℕ) → k < 1 → (33 ≤ get_or (33 ∷ []) k 0) × (get_or (33 ∷ []) k 0 ≤ 126)
 plain zero h = (omega arith, omega arith)
 plain (suc k) h = absurd (omega arith)
 
 -- With no parameter left the table is as it is.
-suits-none : (b : Bool) (ps : List ℕ) (os : List Outcome) → ps ≡ [] → All (Suits (b || names_column ps)) os → All (Suits (b || false)) os
-suits-none b ps os e h = subst (λ z. All (Suits (b || names_column z)) os) e h
+suits_none : (b : Bool) (ps : List ℕ) (os : List Outcome) → ps ≡ [] → AllByRecursion (Suits (b || names_column ps)) os → AllByRecursion (Suits (b || false)) os
+suits_none b ps os e h = subst (λ z. AllByRecursion (Suits (b || names_column z)) os) e h
 
 pub content : (c : ℕ) (l : Left) (xs : List Line) (q : Want) → Runs c (more l) xs q → Content c l xs q
 content c l [] q r =
@@ -285,41 +285,41 @@ content c l [] q r =
       vs = replicate l.values null;
       os = [];
       rest = tail_lines (replicate l.names (33 ∷ [])) (replicate l.params 0) (replicate l.values null) [];
-      many-ns = length-replicate l.names (33 ∷ []);
+      many_ns = length-replicate l.names (33 ∷ []);
       many_ps = length-replicate l.params 0;
-      many-vs = length-replicate l.values null;
-      good-ns = all-copies GoodName (33 ∷ []) l.names (omega arith, omega arith, plain);
-      good-ps = all-copies (GoodParam c) 0 l.params (omega arith);
-      good-vs = all-copies GoodValue null l.values tt;
-      good-os = tt;
-      suit-os = tt;
+      many_vs = length-replicate l.values null;
+      good_ns = all_copies GoodName (33 ∷ []) l.names (omega arith, omega arith, plain);
+      good_ps = all_copies (GoodParam c) 0 l.params (omega arith);
+      good_vs = all_copies GoodValue null l.values tt;
+      good_os = tt;
+      suit_os = tt;
       is = refl;
     }
 content c l (name b ∷ xs) q r =
     let k = content c (left (l.names - 1) l.params l.values l.table) xs q r.1 in
     let f = r.0.0 in
-    let m = k.many-ns in
+    let m = k.many_ns in
     record {
       ns = b ∷ k.ns;
       ps = k.ps;
       vs = k.vs;
       os = k.os;
       rest = k.rest;
-      many-ns = omega arith;
+      many_ns = omega arith;
       many_ps = k.many_ps;
-      many-vs = k.many-vs;
-      good-ns = (r.0.1, k.good-ns);
-      good-ps = k.good-ps;
-      good-vs = k.good-vs;
-      good-os = k.good-os;
-      suit-os = k.suit-os;
+      many_vs = k.many_vs;
+      good_ns = (r.0.1, k.good_ns);
+      good_ps = k.good_ps;
+      good_vs = k.good_vs;
+      good_os = k.good_os;
+      suit_os = k.suit_os;
       is = ap (λ l. name b ∷ l) k.is;
     }
 content c l (param p ∷ xs) q r =
     let k = content c (left l.names (l.params - 1) l.values (l.table || not (eqb p 0))) xs q r.1 in
     let f = r.0.0 in
     let g = r.0.1 in
-    let m = k.many-ns in
+    let m = k.many_ns in
     let n = k.many_ps in
     let z = nil_from_length k.ns (omega arith) in
     let i : tail_lines [] k.ps k.vs k.os ≡ xs ++ k.rest = rw z at k.is in
@@ -329,14 +329,14 @@ content c l (param p ∷ xs) q r =
       vs = k.vs;
       os = k.os;
       rest = k.rest;
-      many-ns = omega arith;
+      many_ns = omega arith;
       many_ps = omega arith;
-      many-vs = k.many-vs;
-      good-ns = tt;
-      good-ps = (r.0.2, k.good-ps);
-      good-vs = k.good-vs;
-      good-os = k.good-os;
-      suit-os = subst (λ z. All (Suits z) k.os) (or_assoc l.table (not (eqb p 0)) (names_column k.ps)) k.suit-os;
+      many_vs = k.many_vs;
+      good_ns = tt;
+      good_ps = (r.0.2, k.good_ps);
+      good_vs = k.good_vs;
+      good_os = k.good_os;
+      suit_os = subst (λ z. AllByRecursion (Suits z) k.os) (or_assoc l.table (not (eqb p 0)) (names_column k.ps)) k.suit_os;
       is = ap (λ l. param p ∷ l) i;
     }
 content c l (value v ∷ xs) q r =
@@ -344,9 +344,9 @@ content c l (value v ∷ xs) q r =
     let f = r.0.0 in
     let g = r.0.1 in
     let h = r.0.2 in
-    let m = k.many-ns in
+    let m = k.many_ns in
     let n = k.many_ps in
-    let o = k.many-vs in
+    let o = k.many_vs in
     let zn = nil_from_length k.ns (omega arith) in
     let zp = nil_from_length k.ps (omega arith) in
     let i : tail_lines [] [] k.vs k.os ≡ xs ++ k.rest = rw (zn, zp) at k.is in
@@ -356,20 +356,20 @@ content c l (value v ∷ xs) q r =
       vs = v ∷ k.vs;
       os = k.os;
       rest = k.rest;
-      many-ns = omega arith;
+      many_ns = omega arith;
       many_ps = omega arith;
-      many-vs = omega arith;
-      good-ns = tt;
-      good-ps = tt;
-      good-vs = (r.0.3, k.good-vs);
-      good-os = k.good-os;
-      suit-os = suits-none l.table k.ps k.os zp k.suit-os;
+      many_vs = omega arith;
+      good_ns = tt;
+      good_ps = tt;
+      good_vs = (r.0.3, k.good_vs);
+      good_os = k.good_os;
+      suit_os = suits_none l.table k.ps k.os zp k.suit_os;
       is = ap (λ l. value v ∷ l) i;
     }
 content c l (head Row ∷ xs) q r =
     let k = content c (left 0 0 c l.table) xs q r.1 in
     let zp = nil_from_length k.ps k.many_ps in
-    let i : tail_lines [] [] k.vs k.os ≡ xs ++ k.rest = rw (nil_from_length k.ns k.many-ns, zp) at k.is in
+    let i : tail_lines [] [] k.vs k.os ≡ xs ++ k.rest = rw (nil_from_length k.ns k.many_ns, zp) at k.is in
     let a = append_assoc (map value k.vs) (flat_map heads k.os) (head End ∷ []) in
     record {
       ns = [];
@@ -377,54 +377,54 @@ content c l (head Row ∷ xs) q r =
       vs = [];
       os = row k.vs ∷ k.os;
       rest = k.rest;
-      many-ns = sym r.0.0;
+      many_ns = sym r.0.0;
       many_ps = sym r.0.1;
-      many-vs = sym r.0.2;
-      good-ns = tt;
-      good-ps = tt;
-      good-vs = tt;
-      good-os = ((k.many-vs, k.good-vs), k.good-os);
-      suit-os = (tt, suits-none l.table k.ps k.os zp k.suit-os);
+      many_vs = sym r.0.2;
+      good_ns = tt;
+      good_ps = tt;
+      good_vs = tt;
+      good_os = ((k.many_vs, k.good_vs), k.good_os);
+      suit_os = (tt, suits_none l.table k.ps k.os zp k.suit_os);
       is = ap (λ l. head Row ∷ l) (a ∙ i);
     }
 content c l (head Done ∷ xs) q r =
     let k = content c (left 0 0 0 l.table) xs q r.1 in
     let zp = nil_from_length k.ps k.many_ps in
-    let i : tail_lines [] [] [] k.os ≡ xs ++ k.rest = rw (nil_from_length k.ns k.many-ns, zp, nil_from_length k.vs k.many-vs) at k.is in
+    let i : tail_lines [] [] [] k.os ≡ xs ++ k.rest = rw (nil_from_length k.ns k.many_ns, zp, nil_from_length k.vs k.many_vs) at k.is in
     record {
       ns = [];
       ps = [];
       vs = [];
       os = done ∷ k.os;
       rest = k.rest;
-      many-ns = sym r.0.0;
+      many_ns = sym r.0.0;
       many_ps = sym r.0.1;
-      many-vs = sym r.0.2;
-      good-ns = tt;
-      good-ps = tt;
-      good-vs = tt;
-      good-os = (tt, k.good-os);
-      suit-os = (or-false l.table ∙ r.0.3.0, suits-none l.table k.ps k.os zp k.suit-os);
+      many_vs = sym r.0.2;
+      good_ns = tt;
+      good_ps = tt;
+      good_vs = tt;
+      good_os = (tt, k.good_os);
+      suit_os = (or_false l.table ∙ r.0.3.0, suits_none l.table k.ps k.os zp k.suit_os);
       is = ap (λ l. head Done ∷ l) i;
     }
 content c l (head (Failed code) ∷ xs) q r =
     let k = content c (left 0 0 0 l.table) xs q r.1 in
     let zp = nil_from_length k.ps k.many_ps in
-    let i : tail_lines [] [] [] k.os ≡ xs ++ k.rest = rw (nil_from_length k.ns k.many-ns, zp, nil_from_length k.vs k.many-vs) at k.is in
+    let i : tail_lines [] [] [] k.os ≡ xs ++ k.rest = rw (nil_from_length k.ns k.many_ns, zp, nil_from_length k.vs k.many_vs) at k.is in
     record {
       ns = [];
       ps = [];
       vs = [];
       os = failed code ∷ k.os;
       rest = k.rest;
-      many-ns = sym r.0.0;
+      many_ns = sym r.0.0;
       many_ps = sym r.0.1;
-      many-vs = sym r.0.2;
-      good-ns = tt;
-      good-ps = tt;
-      good-vs = tt;
-      good-os = (r.0.3.1, k.good-os);
-      suit-os = (or-false l.table ∙ r.0.3.0, suits-none l.table k.ps k.os zp k.suit-os);
+      many_vs = sym r.0.2;
+      good_ns = tt;
+      good_ps = tt;
+      good_vs = tt;
+      good_os = (r.0.3.1, k.good_os);
+      suit_os = (or_false l.table ∙ r.0.3.0, suits_none l.table k.ps k.os zp k.suit_os);
       is = ap (λ l. head (Failed code) ∷ l) i;
     }
 content c l (head End ∷ []) q r =
@@ -434,14 +434,14 @@ content c l (head End ∷ []) q r =
       vs = [];
       os = [];
       rest = [];
-      many-ns = sym r.0.0;
+      many_ns = sym r.0.0;
       many_ps = sym r.0.1;
-      many-vs = sym r.0.2;
-      good-ns = tt;
-      good-ps = tt;
-      good-vs = tt;
-      good-os = tt;
-      suit-os = tt;
+      many_vs = sym r.0.2;
+      good_ns = tt;
+      good_ps = tt;
+      good_vs = tt;
+      good_os = tt;
+      suit_os = tt;
       is = refl;
     }
 content c l (head End ∷ (x ∷ xs)) q r = absurd r.1

@@ -1,110 +1,110 @@
 -- The rendering of a sheet by its lines, and what a line that cannot come says of the whole.
 use Rattle.std.proofs.Common.{◌≡◌, ℕ, suc, ◌+◌, ◌-◌, ◌^◌, ◌<◌, ◌≤◌, false, List, [], ◌∷◌, ◌++◌, map, length, take, decimal, sym, refl, ap, ◌∙◌, subst, ⊎_elim, append_assoc, arith, length-append}
-use Rattle.std.specs.List.{flat_map, AllByRecursion as All}
+use Rattle.std.specs.List.{flat_map, AllByRecursion}
 use Rattle.std.proofs.lemmas.List.{map-append, take-map, take_at, take_all, length-take-le, nil_from_length}
 use Rattle.std.proofs.lemmas.Bool.{cases_lt}
 use Rattle.values.specs.Value.{Value}
 use Rattle.host.specs.Outcome.{Outcome, row, done, failed}
-use Rattle.figures.proofs.Steps.{figure-free}
-use Rattle.sheet.proofs.Parts.{flat-heading}
-use Rattle.sheet.proofs.Runs.{Line, name, param, value, head, written, Left, left, Want, more, nothing, Fits, Runs, runs-take, follow, heads, tail_lines, tail-runs, content}
+use Rattle.figures.proofs.Steps.{figure_free}
+use Rattle.sheet.proofs.Parts.{flat_heading}
+use Rattle.sheet.proofs.Runs.{Line, name, param, value, head, written, Left, left, Want, more, nothing, Fits, Runs, runs_take, follow, heads, tail_lines, tail_runs, content}
 use Rattle.sheet.specs.Sheet.{Sheet, heading_of, heading_line, name_line, param_line, value_line, outcome_lines, body_lines, render, together, GoodHeading, GoodParam, GoodOutcome, WellFormed, RefusedAt}
 use Rattle.sheet.specs.Lines.{Lacks}
 use Rattle.sheet.specs.declared.lines.Heading.{Heading}
 use Rattle.sheet.specs.declared.lines.Head.TheVariants.{End}
 
-written-names : (ns : List (List ℕ)) → map name_line ns ≡ map written (map name ns)
-written-names [] = refl
-written-names (n ∷ ns) = ap (λ l. name_line n ∷ l) (written-names ns)
+written_names : (ns : List (List ℕ)) → map name_line ns ≡ map written (map name ns)
+written_names [] = refl
+written_names (n ∷ ns) = ap (λ l. name_line n ∷ l) (written_names ns)
 
-written-params : (ps : List ℕ) → map param_line ps ≡ map written (map param ps)
-written-params [] = refl
-written-params (p ∷ ps) = ap (λ l. param_line p ∷ l) (written-params ps)
+written_params : (ps : List ℕ) → map param_line ps ≡ map written (map param ps)
+written_params [] = refl
+written_params (p ∷ ps) = ap (λ l. param_line p ∷ l) (written_params ps)
 
-written-values : (vs : List Value) → map value_line vs ≡ map written (map value vs)
-written-values [] = refl
-written-values (v ∷ vs) = ap (λ l. value_line v ∷ l) (written-values vs)
+written_values : (vs : List Value) → map value_line vs ≡ map written (map value vs)
+written_values [] = refl
+written_values (v ∷ vs) = ap (λ l. value_line v ∷ l) (written_values vs)
 
-written-outcome : (o : Outcome) → outcome_lines o ≡ map written (heads o)
-written-outcome (row vs) = ap (λ l. (82 ∷ (10 ∷ [])) ∷ l) (written-values vs)
-written-outcome done = refl
-written-outcome (failed code) = refl
+written_outcome : (o : Outcome) → outcome_lines o ≡ map written (heads o)
+written_outcome (row vs) = ap (λ l. (82 ∷ (10 ∷ [])) ∷ l) (written_values vs)
+written_outcome done = refl
+written_outcome (failed code) = refl
 
-pub written-outcomes : (os : List Outcome) → flat_map outcome_lines os ≡ map written (flat_map heads os)
-written-outcomes [] = refl
-written-outcomes (o ∷ os) =
-    let a = written-outcome o in
-    let b = written-outcomes os in
+pub written_outcomes : (os : List Outcome) → flat_map outcome_lines os ≡ map written (flat_map heads os)
+written_outcomes [] = refl
+written_outcomes (o ∷ os) =
+    let a = written_outcome o in
+    let b = written_outcomes os in
     let m = map-append written (heads o) (flat_map heads os) in
     cc
 
-written-body : (os : List Outcome) → body_lines os ≡ map written (tail_lines [] [] [] os)
-written-body os =
-    let a = written-outcomes os in
+written_body : (os : List Outcome) → body_lines os ≡ map written (tail_lines [] [] [] os)
+written_body os =
+    let a = written_outcomes os in
     let m = map-append written (flat_map heads os) (head End ∷ []) in
     cc
 
-written-sheet : (s : Sheet) → render s ≡ heading_line (heading_of s) ∷ map written (tail_lines s.names s.params [] s.outcomes)
+written_sheet : (s : Sheet) → render s ≡ heading_line (heading_of s) ∷ map written (tail_lines s.names s.params [] s.outcomes)
 unfolding render
-written-sheet s =
-    let a = written-names s.names in
-    let b = written-body s.outcomes in
-    let d = written-params s.params in
+written_sheet s =
+    let a = written_names s.names in
+    let b = written_body s.outcomes in
+    let d = written_params s.params in
     let m = map-append written (map name s.names) (map param s.params ++ tail_lines [] [] [] s.outcomes) in
     let n = map-append written (map param s.params) (tail_lines [] [] [] s.outcomes) in
     ap (λ l. heading_line (heading_of s) ∷ l) (cc)
 
-pub together-map : (xs : List Line) → together (map written xs) ≡ flat_map written xs
-together-map [] = refl
-together-map (x ∷ xs) = ap (λ l. written x ++ l) (together-map xs)
+pub together_map : (xs : List Line) → together (map written xs) ≡ flat_map written xs
+together_map [] = refl
+together_map (x ∷ xs) = ap (λ l. written x ++ l) (together_map xs)
 
-pub joined-append : (xs ys : List Line) → flat_map written (xs ++ ys) ≡ flat_map written xs ++ flat_map written ys
-joined-append [] ys = refl
-joined-append (x ∷ xs) ys = ap (λ l. written x ++ l) (joined-append xs ys) ∙ sym (append_assoc (written x) (flat_map written xs) (flat_map written ys))
+pub joined_append : (xs ys : List Line) → flat_map written (xs ++ ys) ≡ flat_map written xs ++ flat_map written ys
+joined_append [] ys = refl
+joined_append (x ∷ xs) ys = ap (λ l. written x ++ l) (joined_append xs ys) ∙ sym (append_assoc (written x) (flat_map written xs) (flat_map written ys))
 
 abbrev heading : ℕ → ℕ → ℕ → Heading
 heading c p m = record { columns = c; parameters = p; copy_limit = m }
 
-heading-same : (a b c d e f : ℕ) → a ≡ d → b ≡ e → c ≡ f → heading a b c ≡ heading d e f
-heading-same a b c d e f x y z = cc
+heading_same : (a b c d e f : ℕ) → a ≡ d → b ≡ e → c ≡ f → heading a b c ≡ heading d e f
+heading_same a b c d e f x y z = cc
 
 -- A heading is read in one way.
-heading-free : (h k : Heading) (r t : List ℕ) → GoodHeading h → GoodHeading k → heading_line h ++ r ≡ heading_line k ++ t → (h ≡ k) × (r ≡ t)
-heading-free h k r t f g e =
-    let e' = sym (flat-heading h r) ∙ (e ∙ flat-heading k t) in
+heading_free : (h k : Heading) (r t : List ℕ) → GoodHeading h → GoodHeading k → heading_line h ++ r ≡ heading_line k ++ t → (h ≡ k) × (r ≡ t)
+heading_free h k r t f g e =
+    let e' = sym (flat_heading h r) ∙ (e ∙ flat_heading k t) in
     let f0 = f.0 in
     let f1 = f.1 in
     let f2 = f.2 in
     let g0 = g.0 in
     let g1 = g.1 in
     let g2 = g.2 in
-    let x = figure-free h.columns k.columns 32 32 (decimal h.parameters ++ (32 ∷ (decimal h.copy_limit ++ (10 ∷ r)))) (decimal k.parameters ++ (32 ∷ (decimal k.copy_limit ++ (10 ∷ t)))) (omega arith) (omega arith) (omega arith) (omega arith) e' in
-    let y = figure-free h.parameters k.parameters 32 32 (decimal h.copy_limit ++ (10 ∷ r)) (decimal k.copy_limit ++ (10 ∷ t)) (omega arith) (omega arith) (omega arith) (omega arith) x.rests in
-    let z = figure-free h.copy_limit k.copy_limit 10 10 r t (omega arith) (omega arith) (omega arith) (omega arith) y.rests in
-    (heading-same h.columns h.parameters h.copy_limit k.columns k.parameters k.copy_limit x.figures y.figures z.figures, z.rests)
+    let x = figure_free h.columns k.columns 32 32 (decimal h.parameters ++ (32 ∷ (decimal h.copy_limit ++ (10 ∷ r)))) (decimal k.parameters ++ (32 ∷ (decimal k.copy_limit ++ (10 ∷ t)))) (omega arith) (omega arith) (omega arith) (omega arith) e' in
+    let y = figure_free h.parameters k.parameters 32 32 (decimal h.copy_limit ++ (10 ∷ r)) (decimal k.copy_limit ++ (10 ∷ t)) (omega arith) (omega arith) (omega arith) (omega arith) x.rests in
+    let z = figure_free h.copy_limit k.copy_limit 10 10 r t (omega arith) (omega arith) (omega arith) (omega arith) y.rests in
+    (heading_same h.columns h.parameters h.copy_limit k.columns k.parameters k.copy_limit x.figures y.figures z.figures, z.rests)
 
 -- The first lines of a sheet.
-front-lines : (s : Sheet) (n : ℕ) → together (take (suc n) (render s)) ≡ heading_line (heading_of s) ++ flat_map written (take n (tail_lines s.names s.params [] s.outcomes))
-front-lines s n =
+front_lines : (s : Sheet) (n : ℕ) → together (take (suc n) (render s)) ≡ heading_line (heading_of s) ++ flat_map written (take n (tail_lines s.names s.params [] s.outcomes))
+front_lines s n =
     let t = tail_lines s.names s.params [] s.outcomes in
-    let a = ap (λ l. together (take (suc n) l)) (written-sheet s) in
+    let a = ap (λ l. together (take (suc n) l)) (written_sheet s) in
     let b = ap together (take-map written n t) in
-    let m = together-map (take n t) in
+    let m = together_map (take n t) in
     a ∙ ap (λ l. heading_line (heading_of s) ++ l) (b ∙ m)
 
 -- Refused: the lines so far are the front of some sheet, and no next line is.
-empty-sheet : Sheet
-empty-sheet = record { names = []; params = []; copy_limit = 0; outcomes = [] }
+empty_sheet : Sheet
+empty_sheet = record { names = []; params = []; copy_limit = 0; outcomes = [] }
 
-pub refused-first : (s : List ℕ) → Lacks heading_line GoodHeading s → RefusedAt s 1
-unfolding empty-sheet
-refused-first s no-heading =
+pub refused_first : (s : List ℕ) → Lacks heading_line GoodHeading s → RefusedAt s 1
+unfolding empty_sheet
+refused_first s no-heading =
     record {
       some = omega arith;
-      before = record { sheet = empty-sheet; good = record { heading = (omega arith, omega arith, omega arith); names = tt; params = tt; outcomes = tt; rows = tt }; rest = s; begins = refl };
+      before = record { sheet = empty_sheet; good = record { heading = (omega arith, omega arith, omega arith); names = tt; params = tt; outcomes = tt; rows = tt }; rest = s; begins = refl };
       bad = λ b.
           let x = b.sheet in
-          let f = front-lines x 0 in
+          let f = front_lines x 0 in
           let a = append_assoc (heading_line (heading_of x)) [] b.rest in
           no-heading (heading_of x) b.rest b.good.heading (b.begins ∙ (ap (λ l. l ++ b.rest) f ∙ a));
     }
@@ -131,29 +131,29 @@ record Fronted (h : Heading) (xs : List Line) : Type 0 where
 fronted : (h : Heading) (xs : List Line) (l : Left) → GoodHeading h → Runs h.columns (more (begin h)) xs (more l) → Fronted h xs
 fronted h xs l good runs =
     let k = content h.columns (begin h) xs (more l) runs in
-    let many = k.many-ns in
+    let many = k.many_ns in
     let manyp = k.many_ps in
-    let z : k.vs ≡ [] = nil_from_length k.vs k.many-vs in
+    let z : k.vs ≡ [] = nil_from_length k.vs k.many_vs in
     let is : tail_lines k.ns k.ps [] k.os ≡ xs ++ k.rest = rw z at k.is in
     let g0 = good.0 in
     let g1 = good.1 in
-    let hd = heading-same (length k.ns) (length k.ps) h.copy_limit h.columns h.parameters h.copy_limit many manyp refl in
+    let hd = heading_same (length k.ns) (length k.ps) h.copy_limit h.columns h.parameters h.copy_limit many manyp refl in
     record {
       sheet = record { names = k.ns; params = k.ps; copy_limit = h.copy_limit; outcomes = k.os };
       good = record {
         heading = (omega arith, omega arith, good.2);
-        names = k.good-ns;
-        params = subst (λ i. All (GoodParam i) k.ps) (sym many) k.good-ps;
-        outcomes = subst (λ i. All (GoodOutcome i) k.os) (sym many) k.good-os;
-        rows = k.suit-os;
+        names = k.good_ns;
+        params = subst (λ i. AllByRecursion (GoodParam i) k.ps) (sym many) k.good_ps;
+        outcomes = subst (λ i. AllByRecursion (GoodOutcome i) k.os) (sym many) k.good_os;
+        rows = k.suit_os;
       };
       is = hd;
       rest = k.rest;
       lines = is;
     }
 
-sheet-runs : (s : Sheet) → WellFormed s → Runs (length s.names) (more (begin (heading_of s))) (tail_lines s.names s.params [] s.outcomes) nothing
-sheet-runs s g = tail-runs (length s.names) s.names s.params s.outcomes g.names g.params g.outcomes g.rows
+sheet_runs : (s : Sheet) → WellFormed s → Runs (length s.names) (more (begin (heading_of s))) (tail_lines s.names s.params [] s.outcomes) nothing
+sheet_runs s g = tail_runs (length s.names) s.names s.params s.outcomes g.names g.params g.outcomes g.rows
 
 pub refused : (h : Heading) (s r : List ℕ) (xs : List Line) (l : Left) → GoodHeading h → Runs h.columns (more (begin h)) xs (more l) → s ≡ heading_line h ++ (flat_map written xs ++ r) → Lacks written (Fits h.columns l) r → RefusedAt s (length xs + 2)
 refused h s r xs l good runs e lacks =
@@ -163,7 +163,7 @@ refused h s r xs l good runs e lacks =
     let small = good.0 in
     let wide : c < 2 ^ 64 = omega arith in
     let up : n + 2 - 1 ≡ suc n = omega arith in
-    let f = front-lines k.sheet n in
+    let f = front_lines k.sheet n in
     let t : take n (tail_lines k.sheet.names k.sheet.params [] k.sheet.outcomes) ≡ xs = ap (take n) k.lines ∙ take_at xs k.rest n refl in
     let a = append_assoc (heading_line h) (flat_map written xs) r in
     let b : s ≡ together (take (suc n) (render k.sheet)) ++ r = e ∙ (sym a ∙ ap (λ l. l ++ r) (ap (λ z. heading_line z ++ flat_map written xs) (sym k.is) ∙ (ap (λ l. heading_line (heading_of k.sheet) ++ flat_map written l) (sym t) ∙ sym f))) in
@@ -175,13 +175,13 @@ refused h s r xs l good runs e lacks =
           let t = tail_lines x.names x.params [] x.outcomes in
           let p : length xs + 2 ≡ suc (suc n) = omega arith in
           let y : s ≡ together (take (suc (suc n)) (render x)) ++ w.rest = rw p at w.begins in
-          let fx = front-lines x (suc n) in
+          let fx = front_lines x (suc n) in
           let ax = append_assoc (heading_line (heading_of x)) (flat_map written (take (suc n) t)) w.rest in
-          let hf = heading-free h (heading_of x) (flat_map written xs ++ r) (flat_map written (take (suc n) t) ++ w.rest) good w.good.heading (sym e ∙ (y ∙ (ap (λ l. l ++ w.rest) fx ∙ ax))) in
-          let full : Runs c (more (begin h)) t nothing = subst (λ (i : Heading). Runs i.columns (more (begin i)) t nothing) (sym hf.0) (sheet-runs x w.good) in
+          let hf = heading_free h (heading_of x) (flat_map written xs ++ r) (flat_map written (take (suc n) t) ++ w.rest) good w.good.heading (sym e ∙ (y ∙ (ap (λ l. l ++ w.rest) fx ∙ ax))) in
+          let full : Runs c (more (begin h)) t nothing = subst (λ (i : Heading). Runs i.columns (more (begin i)) t nothing) (sym hf.0) (sheet_runs x w.good) in
           ⊎_elim
           (λ (longer : n < length t).
-          let part = runs-take c (more (begin h)) nothing t (suc n) full in
+          let part = runs_take c (more (begin h)) nothing t (suc n) full in
           let lt = length-take-le (suc n) t (omega arith) in
           let fo = follow c (more (begin h)) (more l) part.0 xs (take (suc n) t) r w.rest wide runs part.1 (omega arith) hf.1 in
           let li = ap length fo.is ∙ length-append xs fo.rest in

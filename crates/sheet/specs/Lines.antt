@@ -1,6 +1,6 @@
 -- What a reader of one line, or of several of a kind, answers.
 use Rattle.std.specs.Prelude.{◌≡◌, ℕ, ◌+◌, ◌^◌, ◌<◌, ◌≤◌, Bool, false, ◌⊎◌, List, ◌∷◌, ◌++◌, length, take, drop, decimal, ◌≢◌}
-use Rattle.std.specs.List.{flat_map, AllByRecursion as All}
+use Rattle.std.specs.List.{flat_map, AllByRecursion}
 use Rattle.values.specs.Value.{Value, null, long, double, text, blob}
 use Rattle.figures.specs.declared.Part.{Part}
 use Rattle.host.specs.Outcome.{Outcome}
@@ -38,7 +38,7 @@ pub record Stuck {V : Type 0} (write : V → List ℕ) (Good : V → Type 0) (s 
 pub record Block {V : Type 0} (write : V → List ℕ) (Good : V → Type 0) (s : List ℕ) (p n q : ℕ) : Type 0 where
   pub items : List V
   pub many : length items ≡ n
-  pub good : All Good items
+  pub good : AllByRecursion Good items
   pub begins : drop p s ≡ flat_map write items ++ drop q s
   pub size : q ≡ p + length (flat_map write items)
   pub within : q ≤ length s
@@ -111,8 +111,8 @@ NoCode s = (n : ℕ) (rest : List ℕ) → GoodCode n → s ≢ decimal n ++ (10
 -- At place p of s stand outcomes of so many columns, good in a table or in a script, and the next line begins at q.
 pub record Outcomes (s : List ℕ) (columns : ℕ) (table : Bool) (p q : ℕ) : Type 0 where
   pub items : List Outcome
-  pub good : All (GoodOutcome columns) items
-  pub suits : All (Suits table) items
+  pub good : AllByRecursion (GoodOutcome columns) items
+  pub suits : AllByRecursion (Suits table) items
   pub begins : drop p s ≡ together (flat_map outcome_lines items) ++ drop q s
   pub size : q ≡ p + length (together (flat_map outcome_lines items))
   pub within : q ≤ length s
@@ -128,8 +128,8 @@ pub record OutcomesBreak (s : List ℕ) (columns : ℕ) (table : Bool) (p l bad 
 -- At place p of s stand outcomes and then the last line, which ends at q.
 pub record Ended (s : List ℕ) (columns : ℕ) (table : Bool) (p q : ℕ) : Type 0 where
   pub items : List Outcome
-  pub good : All (GoodOutcome columns) items
-  pub suits : All (Suits table) items
+  pub good : AllByRecursion (GoodOutcome columns) items
+  pub suits : AllByRecursion (Suits table) items
   pub begins : drop p s ≡ together (body_lines items) ++ drop q s
   pub size : q ≡ p + length (together (body_lines items))
   pub within : q ≤ length s

@@ -1,7 +1,7 @@
 -- Where the parts of an accepted sheet stand, and what playing its outcomes answers.
 use Rattle.std.specs.Prelude.{◌≡◌, ℕ, ◌<◌, ◌≤◌, Bool, List, [], ◌∷◌, ◌++◌, length, drop, Option, MatchOption, slice_index_or}
 use Rattle.std.specs.Borrow.{Bor}
-use Rattle.std.specs.List.{flat_map, AllByRecursion as All}
+use Rattle.std.specs.List.{flat_map, AllByRecursion}
 use Rattle.host.specs.Outcome.{Outcome, row, done, failed}
 use Rattle.sheet.specs.Sheet.{Sheet, name_line, value_line, body_lines, render, together, GoodOutcome, names_column, Holds}
 use Rattle.sheet.specs.declared.play.Played.{Played}
@@ -9,7 +9,7 @@ use Rattle.sheet.specs.declared.play.Played.TheVariants.{Row, Done, Failed, End}
 
 -- The outcomes os, good ones of so many columns, and then the last line stand at place p of s.
 pub record At (s : List ℕ) (columns p : ℕ) (os : List Outcome) : Type 0 where
-  pub good : All (GoodOutcome columns) os
+  pub good : AllByRecursion (GoodOutcome columns) os
   pub rest : List ℕ
   pub begins : drop p s ≡ together (body_lines os) ++ rest
 
@@ -18,16 +18,16 @@ pub record Accepted (s : List ℕ) (columns parameters copies names outcomes end
   pub sheet : Sheet
   pub holds : Holds s sheet
   pub only : (other : Sheet) → Holds s other → other ≡ sheet
-  pub columns-is : columns ≡ length sheet.names
-  pub parameters-is : parameters ≡ length sheet.params
-  pub copies-is : copies ≡ sheet.copy_limit
+  pub columns_is : columns ≡ length sheet.names
+  pub parameters_is : parameters ≡ length sheet.params
+  pub copies_is : copies ≡ sheet.copy_limit
   pub table_is : table ≡ names_column sheet.params
-  pub names-at : (rest : List ℕ) × (drop names s ≡ flat_map name_line sheet.names ++ rest)
-  pub names-within : names ≤ length s
-  pub outcomes-at : At s columns outcomes sheet.outcomes
-  pub outcomes-within : outcomes ≤ length s
+  pub names_from : (rest : List ℕ) × (drop names s ≡ flat_map name_line sheet.names ++ rest)
+  pub names_within : names ≤ length s
+  pub outcomes_from : At s columns outcomes sheet.outcomes
+  pub outcomes_within : outcomes ≤ length s
   pub end_is : end ≡ length (together (render sheet))
-  pub end-within : end ≤ length s
+  pub end_within : end ≤ length s
 
 -- The name of column i, counted from 0, or nothing past the last column.
 abbrev pub ByName : Option (Bor (List ℕ)) → List (List ℕ) → ℕ → Type 0

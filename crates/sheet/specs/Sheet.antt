@@ -3,7 +3,7 @@ use Rattle.std.specs.Prelude.{◌≡◌, ℕ, ◌-◌, ◌%◌, ◌^◌, ◌<◌
 use Rattle.std.specs.Int.Signed.{mag}
 use Rattle.std.specs.Int.{IsInRange}
 use Rattle.std.specs.Fmt.{signed_decimal}
-use Rattle.std.specs.List.{flat_map, AllByRecursion as All}
+use Rattle.std.specs.List.{flat_map, AllByRecursion}
 use Rattle.values.specs.Value.{Value, null, long, double, text, blob}
 use Rattle.host.specs.Outcome.{Outcome, row, done, failed}
 use Rattle.sheet.specs.declared.lines.Heading.{Heading}
@@ -111,7 +111,7 @@ GoodCode code = (1 ≤ code) × (code ≤ 65535) × (code ≢ 100) × (code ≢ 
 
 -- A row has one good value to a column.
 abbrev pub GoodOutcome : ℕ → Outcome → Type 0
-GoodOutcome columns (row vs) = (length vs ≡ columns) × All GoodValue vs
+GoodOutcome columns (row vs) = (length vs ≡ columns) × AllByRecursion GoodValue vs
 GoodOutcome columns done = Unit {0}
 GoodOutcome columns (failed code) = GoodCode code
 
@@ -129,10 +129,10 @@ Suits table (failed code) = table ≡ false
 -- What is so of a sheet as a whole.
 pub record WellFormed (s : Sheet) : Type 0 where
   pub heading : GoodHeading (heading_of s)
-  pub names : All GoodName s.names
-  pub params : All (GoodParam (length s.names)) s.params
-  pub outcomes : All (GoodOutcome (length s.names)) s.outcomes
-  pub rows : All (Suits (names_column s.params)) s.outcomes
+  pub names : AllByRecursion GoodName s.names
+  pub params : AllByRecursion (GoodParam (length s.names)) s.params
+  pub outcomes : AllByRecursion (GoodOutcome (length s.names)) s.outcomes
+  pub rows : AllByRecursion (Suits (names_column s.params)) s.outcomes
 
 -- The bytes begin with the whole of a well-formed sheet.
 pub record Holds (bytes : List ℕ) (sheet : Sheet) : Type 0 where

@@ -29,48 +29,48 @@ first_some (x ∷ xs) ys r e = go x.0 (λ q. first_some xs ys r q) e
     go true again q = q
     go false again q = again q
 
-first-none : {R : Type 0} (xs ys : List (Bool × R)) → first_of xs ≡ None → first_of (xs ++ ys) ≡ first_of ys
-first-none [] ys e = refl
-first-none (x ∷ xs) ys e = go x.0 (λ q. first-none xs ys q) e
+first_none : {R : Type 0} (xs ys : List (Bool × R)) → first_of xs ≡ None → first_of (xs ++ ys) ≡ first_of ys
+first_none [] ys e = refl
+first_none (x ∷ xs) ys e = go x.0 (λ q. first_none xs ys q) e
   where
     go : (b : Bool) → (first_of xs ≡ None → first_of (xs ++ ys) ≡ first_of ys) → cond b (Some x.1) (first_of xs) ≡ None → cond b (Some x.1) (first_of (xs ++ ys)) ≡ first_of ys
     go true again q = never (cc)
     go false again q = again q
 
 -- none of five tests holds
-last-two : {R : Type 0} (a b c d e : Bool) (p q r s t : R) → first_of ((a, p) ∷ (b, q) ∷ (c, r) ∷ (d, s) ∷ (e, t) ∷ []) ≡ None → (d ≡ false) × (e ≡ false)
-last-two true b c d e p q r s t h = never (cc)
-last-two false true c d e p q r s t h = never (cc)
-last-two false false true d e p q r s t h = never (cc)
-last-two false false false true e p q r s t h = never (cc)
-last-two false false false false true p q r s t h = never (cc)
-last-two false false false false false p q r s t h = (refl, refl)
+last_two : {R : Type 0} (a b c d e : Bool) (p q r s t : R) → first_of ((a, p) ∷ (b, q) ∷ (c, r) ∷ (d, s) ∷ (e, t) ∷ []) ≡ None → (d ≡ false) × (e ≡ false)
+last_two true b c d e p q r s t h = never (cc)
+last_two false true c d e p q r s t h = never (cc)
+last_two false false true d e p q r s t h = never (cc)
+last_two false false false true e p q r s t h = never (cc)
+last_two false false false false true p q r s t h = never (cc)
+last_two false false false false false p q r s t h = (refl, refl)
 
-test-err : (o : Option Refusal) (r : Refusal) → Err r ≡ test_answer o → o ≡ Some r
-test-err None r e = never (cc)
-test-err (Some q) r e = let z : r ≡ q = cc in ap Some (sym z)
+test_err : (o : Option Refusal) (r : Refusal) → Err r ≡ test_answer o → o ≡ Some r
+test_err None r e = never (cc)
+test_err (Some q) r e = let z : r ≡ q = cc in ap Some (sym z)
 
-test-ok : (o : Option Refusal) {u : Unit {0}} → Ok u ≡ test_answer o → o ≡ None
-test-ok None e = refl
-test-ok (Some q) e = never (cc)
+test_ok : (o : Option Refusal) {u : Unit {0}} → Ok u ≡ test_answer o → o ≡ None
+test_ok None e = refl
+test_ok (Some q) e = never (cc)
 
 -- what bind's first tests leave
-pub may-facts : (s : State) (ps : List Pair) (txt given : List ℕ) (room : ℕ) (o : Result (Unit {0}) Refusal) {u : Unit {0}} → o ≡ may_bind_answer s ps txt given room → o ≡ Ok u → (length ps ≤ 32) × (all_inside (length txt) (length given) ps ≡ true)
+pub may_facts : (s : State) (ps : List Pair) (txt given : List ℕ) (room : ℕ) (o : Result (Unit {0}) Refusal) {u : Unit {0}} → o ≡ may_bind_answer s ps txt given room → o ≡ Ok u → (length ps ≤ 32) × (all_inside (length txt) (length given) ps ≡ true)
 unfolding may_bind_answer
-may-facts s ps txt given room o a e =
-    let n = test-ok (first_of (may_bind_tests s ps txt given room)) (sym e ∙ a) in
-    let p = last-two (is_current s.binding) (ltb 0 s.held) (too_long (length txt) (length given) room) (ltb 32 (length ps)) (not (all_inside (length txt) (length given) ps)) WrongState RowHeld Length TooManyValues Outside n in
-    (ltb-false 32 (length ps) p.0, not-false (all_inside (length txt) (length given) ps) p.1)
+may_facts s ps txt given room o a e =
+    let n = test_ok (first_of (may_bind_tests s ps txt given room)) (sym e ∙ a) in
+    let p = last_two (is_current s.binding) (ltb 0 s.held) (too_long (length txt) (length given) room) (ltb 32 (length ps)) (not (all_inside (length txt) (length given) ps)) WrongState RowHeld Length TooManyValues Outside n in
+    (ltb-false 32 (length ps) p.0, not_false (all_inside (length txt) (length given) ps) p.1)
   where
-    not-false : (b : Bool) → not b ≡ false → b ≡ true
-    not-false true q = refl
-    not-false false q = never (cc)
+    not_false : (b : Bool) → not b ≡ false → b ≡ true
+    not_false true q = refl
+    not_false false q = never (cc)
 
 -- bind refused by its first tests
-pub bind-refused : (s : State) (query : ℕ) (ps : List Pair) (txt given room : List ℕ) (o : Result (Unit {0}) Refusal) (r : Refusal) → o ≡ may_bind_answer s ps txt given (length room) → o ≡ Err r → (◌≡◌ {A = Result ℕ Refusal} (Err r) (bind_says s ps txt given room)) × (s ≡ bind_goes s query ps txt given room) × (room ≡ bind_leaves s ps txt given room)
+pub bind_refused : (s : State) (query : ℕ) (ps : List Pair) (txt given room : List ℕ) (o : Result (Unit {0}) Refusal) (r : Refusal) → o ≡ may_bind_answer s ps txt given (length room) → o ≡ Err r → (◌≡◌ {A = Result ℕ Refusal} (Err r) (bind_says s ps txt given room)) × (s ≡ bind_goes s query ps txt given room) × (room ≡ bind_leaves s ps txt given room)
 unfolding may_bind_answer bind_says bind_goes bind_leaves
-bind-refused s query ps txt given room o r a e =
-    let f = first_some (may_bind_tests s ps txt given (length room)) ((ltb (length room) (room_bytes ps), room_short) ∷ []) r (test-err (first_of (may_bind_tests s ps txt given (length room))) r (sym e ∙ a)) in
+bind_refused s query ps txt given room o r a e =
+    let f = first_some (may_bind_tests s ps txt given (length room)) ((ltb (length room) (room_bytes ps), room_short) ∷ []) r (test_err (first_of (may_bind_tests s ps txt given (length room))) r (sym e ∙ a)) in
     (ap (λ z. says_by z ps (tried_of s ps)) (sym f), ap (λ z. bound_if (says_by z ps (tried_of s ps)) (taken_by z s ps (tried_of s ps)) query (record { text = length txt; room = length room })) (sym f), ap (λ z. leaves_by z ps (tried_of s ps) given room) (sym f))
 
 -- bind once its first tests have passed
@@ -79,23 +79,23 @@ pub record Passed (s : State) (query : ℕ) (ps : List Pair) (txt given room : L
   pub goes : bound_if (take_says s ps room) (take_goes s ps room) query (record { text = length txt; room = length room }) ≡ bind_goes s query ps txt given room
   pub leaves : take_leaves s ps given room ≡ bind_leaves s ps txt given room
 
-pub bind-passed : (s : State) (query : ℕ) (ps : List Pair) (txt given room : List ℕ) (o : Result (Unit {0}) Refusal) {u : Unit {0}} → o ≡ may_bind_answer s ps txt given (length room) → o ≡ Ok u → Passed s query ps txt given room
+pub bind_passed : (s : State) (query : ℕ) (ps : List Pair) (txt given room : List ℕ) (o : Result (Unit {0}) Refusal) {u : Unit {0}} → o ≡ may_bind_answer s ps txt given (length room) → o ≡ Ok u → Passed s query ps txt given room
 unfolding may_bind_answer bind_says bind_goes bind_leaves take_says take_goes take_leaves
-bind-passed s query ps txt given room o a e =
-    let f = first-none (may_bind_tests s ps txt given (length room)) ((ltb (length room) (room_bytes ps), room_short) ∷ []) (test-ok (first_of (may_bind_tests s ps txt given (length room))) (sym e ∙ a)) in
+bind_passed s query ps txt given room o a e =
+    let f = first_none (may_bind_tests s ps txt given (length room)) ((ltb (length room) (room_bytes ps), room_short) ∷ []) (test_ok (first_of (may_bind_tests s ps txt given (length room))) (sym e ∙ a)) in
     record {
       says = ap (λ z. says_by z ps (tried_of s ps)) (sym f);
       goes = ap (λ z. bound_if (says_by z ps (tried_of s ps)) (taken_by z s ps (tried_of s ps)) query (record { text = length txt; room = length room })) (sym f);
       leaves = ap (λ z. leaves_by z ps (tried_of s ps) given room) (sym f);
     }
 
-pub undone-goes : (s s₁ : State) (query : ℕ) (ps : List Pair) (txt given room : List ℕ) (o : Result ℕ Refusal) (r : Refusal) → Passed s query ps txt given room → o ≡ take_says s ps room → o ≡ Err r → s₁ ≡ take_goes s ps room → s₁ ≡ bind_goes s query ps txt given room
-undone-goes s s₁ query ps txt given room o r x a e f =
+pub undone_goes : (s s₁ : State) (query : ℕ) (ps : List Pair) (txt given room : List ℕ) (o : Result ℕ Refusal) (r : Refusal) → Passed s query ps txt given room → o ≡ take_says s ps room → o ≡ Err r → s₁ ≡ take_goes s ps room → s₁ ≡ bind_goes s query ps txt given room
+undone_goes s s₁ query ps txt given room o r x a e f =
     let b : take_says s ps room ≡ Err r = sym a ∙ e in
     f ∙ (ap (λ z. bound_if z (take_goes s ps room) query (record { text = length txt; room = length room })) (sym b) ∙ x.goes)
 
-pub bound-goes : (s s₁ : State) (query n k : ℕ) (ps : List Pair) (txt given room : List ℕ) (o : Result ℕ Refusal) → Passed s query ps txt given room → o ≡ take_says s ps room → o ≡ Ok n → s₁ ≡ take_goes s ps room → k ≡ length room → current_state s₁ query (record { text = length txt; room = k }) ≡ bind_goes s query ps txt given room
-bound-goes s s₁ query n k ps txt given room o x a e f g =
+pub bound_goes : (s s₁ : State) (query n k : ℕ) (ps : List Pair) (txt given room : List ℕ) (o : Result ℕ Refusal) → Passed s query ps txt given room → o ≡ take_says s ps room → o ≡ Ok n → s₁ ≡ take_goes s ps room → k ≡ length room → current_state s₁ query (record { text = length txt; room = k }) ≡ bind_goes s query ps txt given room
+bound_goes s s₁ query n k ps txt given room o x a e f g =
     let b : take_says s ps room ≡ Ok n = sym a ∙ e in
     ap₂ (λ z l. current_state z query (record { text = length txt; room = l })) f g ∙ (ap (λ z. bound_if z (take_goes s ps room) query (record { text = length txt; room = length room })) (sym b) ∙ x.goes)
 
@@ -103,26 +103,26 @@ bound-goes s s₁ query n k ps txt given room o x a e f g =
 pub end_refused : (s : State) (txt room : List ℕ) (o : Result (Unit {0}) Refusal) (r : Refusal) → o ≡ current_answer s txt room → o ≡ Err r → (◌≡◌ {A = Result ℕ Refusal} (Err r) (end_says s txt room)) × (s ≡ end_goes s txt room) × (room ≡ end_leaves s txt room)
 unfolding current_answer end_says end_goes end_leaves
 end_refused s txt room o r a e =
-    let f = test-err (first_of (current_tests s txt room)) r (sym e ∙ a) in
+    let f = test_err (first_of (current_tests s txt room)) r (sym e ∙ a) in
     (rw f refl, rw f refl, rw f refl)
 
-pub end-passed : (s : State) (txt room : List ℕ) (o : Result (Unit {0}) Refusal) {u : Unit {0}} → o ≡ current_answer s txt room → o ≡ Ok u → (◌≡◌ {A = Result ℕ Refusal} (Ok (length s.leases)) (end_says s txt room)) × (returned_state s 0 ≡ end_goes s txt room) × (zeroed s.leases room ≡ end_leaves s txt room)
+pub end_passed : (s : State) (txt room : List ℕ) (o : Result (Unit {0}) Refusal) {u : Unit {0}} → o ≡ current_answer s txt room → o ≡ Ok u → (◌≡◌ {A = Result ℕ Refusal} (Ok (length s.leases)) (end_says s txt room)) × (returned_state s 0 ≡ end_goes s txt room) × (zeroed s.leases room ≡ end_leaves s txt room)
 unfolding current_answer end_says end_goes end_leaves
-end-passed s txt room o a e =
-    let f = test-ok (first_of (current_tests s txt room)) (sym e ∙ a) in
+end_passed s txt room o a e =
+    let f = test_ok (first_of (current_tests s txt room)) (sym e ∙ a) in
     (rw f refl, rw f refl, rw f refl)
 
-pub execute-refused : (s : State) (txt room : List ℕ) (o : Result (Unit {0}) Refusal) (r : Refusal) → o ≡ current_answer s txt room → o ≡ Err r → (◌≡◌ {A = Result Executed Refusal} (Err r) (execute_says s txt room)) × (s ≡ execute_goes s txt room) × (room ≡ execute_leaves s txt room)
+pub execute_refused : (s : State) (txt room : List ℕ) (o : Result (Unit {0}) Refusal) (r : Refusal) → o ≡ current_answer s txt room → o ≡ Err r → (◌≡◌ {A = Result Executed Refusal} (Err r) (execute_says s txt room)) × (s ≡ execute_goes s txt room) × (room ≡ execute_leaves s txt room)
 unfolding current_answer execute_says execute_goes execute_leaves
-execute-refused s txt room o r a e =
-    let f = first_some (current_tests s txt room) ((eqb s.steps 4294967295, StepsSpent) ∷ []) r (test-err (first_of (current_tests s txt room)) r (sym e ∙ a)) in
+execute_refused s txt room o r a e =
+    let f = first_some (current_tests s txt room) ((eqb s.steps 4294967295, StepsSpent) ∷ []) r (test_err (first_of (current_tests s txt room)) r (sym e ∙ a)) in
     (rw f refl, rw f refl, rw f refl)
 
-pub execute-spent : (s : State) (txt room : List ℕ) (o : Result (Unit {0}) Refusal) {u : Unit {0}} → o ≡ current_answer s txt room → o ≡ Ok u → s.steps ≡ 4294967295 → (◌≡◌ {A = Result Executed Refusal} (Err StepsSpent) (execute_says s txt room)) × (s ≡ execute_goes s txt room) × (room ≡ execute_leaves s txt room)
+pub execute_spent : (s : State) (txt room : List ℕ) (o : Result (Unit {0}) Refusal) {u : Unit {0}} → o ≡ current_answer s txt room → o ≡ Ok u → s.steps ≡ 4294967295 → (◌≡◌ {A = Result Executed Refusal} (Err StepsSpent) (execute_says s txt room)) × (s ≡ execute_goes s txt room) × (room ≡ execute_leaves s txt room)
 unfolding current_answer execute_says execute_goes execute_leaves
-execute-spent s txt room o a e h =
+execute_spent s txt room o a e h =
     let b = eq-eqb s.steps 4294967295 h in
-    let f = first-none (current_tests s txt room) ((eqb s.steps 4294967295, StepsSpent) ∷ []) (test-ok (first_of (current_tests s txt room)) (sym e ∙ a)) in
+    let f = first_none (current_tests s txt room) ((eqb s.steps 4294967295, StepsSpent) ∷ []) (test_ok (first_of (current_tests s txt room)) (sym e ∙ a)) in
     let f' : first_of (execute_tests s txt room) ≡ Some StepsSpent = f ∙ ap (λ z. cond z (Some StepsSpent) None) b in
     (rw f' refl, rw f' refl, rw f' refl)
 
@@ -131,11 +131,11 @@ pub record Executes (s : State) (txt room : List ℕ) : Type 0 where
   pub goes : returned_state (stepped_state s txt room) (report_code (step_answer s.host txt room)) ≡ execute_goes s txt room
   pub leaves : zeroed s.leases room ≡ execute_leaves s txt room
 
-pub execute-passed : (s : State) (txt room : List ℕ) (o : Result (Unit {0}) Refusal) {u : Unit {0}} → o ≡ current_answer s txt room → o ≡ Ok u → (s.steps ≡ 4294967295 → ⊥) → Executes s txt room
+pub execute_passed : (s : State) (txt room : List ℕ) (o : Result (Unit {0}) Refusal) {u : Unit {0}} → o ≡ current_answer s txt room → o ≡ Ok u → (s.steps ≡ 4294967295 → ⊥) → Executes s txt room
 unfolding current_answer execute_says execute_goes execute_leaves
-execute-passed s txt room o a e h =
+execute_passed s txt room o a e h =
     let b = ne_eqb s.steps 4294967295 h in
-    let f = first-none (current_tests s txt room) ((eqb s.steps 4294967295, StepsSpent) ∷ []) (test-ok (first_of (current_tests s txt room)) (sym e ∙ a)) in
+    let f = first_none (current_tests s txt room) ((eqb s.steps 4294967295, StepsSpent) ∷ []) (test_ok (first_of (current_tests s txt room)) (sym e ∙ a)) in
     let f' : first_of (execute_tests s txt room) ≡ None = f ∙ ap (λ z. cond z (Some StepsSpent) None) b in
     record { says = rw f' refl; goes = rw f' refl; leaves = rw f' refl }
 
@@ -145,10 +145,10 @@ executed s s₁ s₂ txt room room₂ a code n x ea e₁ ec en e₂ er =
     let l : s₁.leases ≡ s.leases = ap (λ (z : State). z.leases) e₁ in
     (ap₂ stepped_says ea (en ∙ ap length l) ∙ x.says, e₂ ∙ (ap₂ returned_state e₁ (ec ∙ ap report_code ea) ∙ x.goes), er ∙ (ap (λ z. zeroed z room) l ∙ x.leaves))
 
--- set-up
-pub set-up : (m m₁ m₂ : Meaning) (ls : List Span) (is : List ℕ) → m₁ ≡ reset_after m → m₂ ≡ nulled m₁ (count_up 1 m₁.params) → ls ≡ [] → is ≡ [] → ◌≡◌ {A = State} (record { host = m₂; binding = AtRest; held = 0; query = 0; leases = ls; nulls = is; lengths = record { text = 0; room = 0 }; steps = 0; report = None }) (set_up m)
+-- set_up_lem
+pub set_up_lem : (m m₁ m₂ : Meaning) (ls : List Span) (is : List ℕ) → m₁ ≡ reset_after m → m₂ ≡ nulled m₁ (count_up 1 m₁.params) → ls ≡ [] → is ≡ [] → ◌≡◌ {A = State} (record { host = m₂; binding = AtRest; held = 0; query = 0; leases = ls; nulls = is; lengths = record { text = 0; room = 0 }; steps = 0; report = None }) (set_up m)
 unfolding reset_after
-set-up m m₁ m₂ ls is e f el ei =
+set_up_lem m m₁ m₂ ls is e f el ei =
     let h : m₂ ≡ set_up_host m = f ∙ ap (λ (z : Meaning). nulled z (count_up 1 z.params)) e in
     let st : Meaning → List Span → List ℕ → State = λ z a b. record { host = z; binding = AtRest; held = 0; query = 0; leases = a; nulls = b; lengths = record { text = 0; room = 0 }; steps = 0; report = None } in
     ap (λ z. st z ls is) h ∙ (ap (λ z. st (set_up_host m) z is) el ∙ ap (st (set_up_host m) []) ei)

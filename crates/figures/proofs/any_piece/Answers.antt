@@ -1,15 +1,15 @@
 use Rattle.std.proofs.Common.{arith}
-use Rattle.figures.proofs.Steps.{piece-seen, pieced}
+use Rattle.figures.proofs.Steps.{piece_seen, pieced}
 use Rattle.figures.proofs.any_piece.Goals as goal
 
 pub returns-then-s-from : goal.returns-then-s-from
 returns-then-s-from c = λ bs rest low high e.
-    let f = piece-seen c.args.s.now bs rest 18446744073709551615 c.in_ok-n.n c.in_ok-n.from (omega arith) c.in_ok-n.ensures high e in
+    let f = piece_seen c.args.s.now bs rest 18446744073709551615 c.in_ok-n.n c.in_ok-n.from (omega arith) c.in_ok-n.ensures high e in
     omega arith
 
 pub returns-then-s-from-ne10 : goal.returns-then-s-from-ne10
 returns-then-s-from-ne10 c = λ bs rest low high e.
-    let f = piece-seen c.args.s.now bs rest 18446744073709551615 c.in_ok-n.n c.in_ok-n.from (omega arith) c.in_ok-n.ensures high e in
+    let f = piece_seen c.args.s.now bs rest 18446744073709551615 c.in_ok-n.n c.in_ok-n.from (omega arith) c.in_ok-n.ensures high e in
     omega arith
 
 pub returns : goal.returns

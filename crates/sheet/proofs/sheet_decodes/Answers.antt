@@ -1,5 +1,5 @@
-use Rattle.sheet.proofs.Decoded.{sheet-at}
+use Rattle.sheet.proofs.Decoded.{sheet_at_lem}
 use Rattle.sheet.proofs.sheet_decodes.Goals as goal
 
 pub returns : goal.returns
-returns c = sheet-at
+returns c = sheet_at_lem

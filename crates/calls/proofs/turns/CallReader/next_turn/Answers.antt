@@ -5,7 +5,7 @@ use Rattle.sheet.specs.Lines.{Reads, Lacks}
 use Rattle.calls.specs.Binds.{Because, bundle_of, ValuesRead, NoLines}
 use Rattle.calls.specs.Calls.{bind_line, call_lines, GoodHead, GoodCall}
 use Rattle.calls.proofs.Taking.{because}
-use Rattle.calls.proofs.Calling.{call_none, call-short, execute-read, end_read, bind-read, turn_moved}
+use Rattle.calls.proofs.Calling.{call_none, call_short, execute_read, end_read, bind_read, turn_moved}
 use Rattle.runs.specs.declared.turns.Turn.{Turn}
 use Rattle.runs.specs.declared.turns.Call.TheVariants.{Bind}
 use Rattle.runs.specs.declared.turns.Lent.TheVariants.{Fresh, Kept}
@@ -22,7 +22,7 @@ returns-then-is_letter c =
     let s = r.bytes.now in
     let p = r.place in
     let o : drop p s ≡ 120 ∷ (10 ∷ drop 2 (drop p s)) = rw (take_rest s p) at (c.if-is_letter.ensures.0 refl) in
-    record { same = refl; moved = λ _. omega arith; read = execute-read s p _ o (record { asks = refl; text = refl; given = refl }) refl }
+    record { same = refl; moved = λ _. omega arith; read = execute_read s p _ o (record { asks = refl; text = refl; given = refl }) refl }
 
 pub returns-then-is_letter-2 : goal.returns-then-is_letter-2
 returns-then-is_letter-2 c =
@@ -53,7 +53,7 @@ returns-in_err-values c =
     let fault = c.in_err-values.field-0.0 in
     let rd : Reads bind_line GoodHead (drop p s) (c.in-Some.query, c.in-Some.count) n = rw (take_rest s p) at c.in-Some.ensures in
     let x : Because (NoLines s (p + n) c.in-Some.count) fault = c.in_err-values.ensures.read in
-    let f : Because (Lacks call_lines GoodCall (drop p s)) fault = because fault (call-short s p c.in-Some.query c.in-Some.count n rd) x in
+    let f : Because (Lacks call_lines GoodCall (drop p s)) fault = because fault (call_short s p c.in-Some.query c.in-Some.count n rd) x in
     let e = c.in_err-values.ensures.same in
     search rules
 
@@ -69,6 +69,6 @@ returns c =
     let x : ValuesRead s (p + n) c.in-Some.count q b = c.in_ok-values.ensures.read in
     record {
       same = c.in_ok-values.ensures.same;
-      moved = λ _. turn_moved s p q _ (bind-read s p c.in-Some.query c.in-Some.count n q b (turn_of c.in-Some.query c.in_ok-values.values) rd x refl refl refl refl);
-      read = bind-read s p c.in-Some.query c.in-Some.count n q b _ rd x refl refl refl refl;
+      moved = λ _. turn_moved s p q _ (bind_read s p c.in-Some.query c.in-Some.count n q b (turn_of c.in-Some.query c.in_ok-values.values) rd x refl refl refl refl);
+      read = bind_read s p c.in-Some.query c.in-Some.count n q b _ rd x refl refl refl refl;
     }

@@ -3,7 +3,7 @@ use Rattle.std.proofs.lemmas.List.{take_rest}
 use Rattle.sheet.specs.Lines.{Lacks}
 use Rattle.calls.specs.Items.{item_line}
 use Rattle.calls.specs.Binds.{GoodNext, Because, LineTaken, ValuesRead, NoLines, bundle_of}
-use Rattle.calls.proofs.Taking.{because, walked_none, walked_more, walked-stuck}
+use Rattle.calls.proofs.Taking.{because, walked_none, walked_more, walked_stuck}
 use Rattle.calls.proofs.turns.CallReader.values.Goals as goal
 
 pub loop-init : goal.loop-init
@@ -19,7 +19,7 @@ returns-in_err-n c =
     let e = w.same in
     let h = w.ahead in
     let x : Because (Lacks item_line (GoodNext b) (drop q.place q.bytes.now)) fault = rw (take_rest q.bytes.now q.place) at c.in_err-n.ensures in
-    let f : Because (NoLines r.bytes.now r.place c.args.count) fault = because fault (walked-stuck r.bytes.now r.place c.loop.counter q.bytes.now q.place c.args.count b w (omega arith)) x in
+    let f : Because (NoLines r.bytes.now r.place c.args.count) fault = because fault (walked_stuck r.bytes.now r.place c.loop.counter q.bytes.now q.place c.args.count b w (omega arith)) x in
     search rules
 
 pub loop-preserved : goal.loop-preserved

@@ -1,6 +1,6 @@
 use Rattle.std.proofs.Common.{drop, arith}
 use Rattle.sheet.specs.Decode.{sheet_at}
-use Rattle.script.proofs.Hosted.{Here, at_here, moves-row, moves-done, moves-failed, failed-fits, starts-over}
+use Rattle.script.proofs.Hosted.{Here, at_here, moves_row, moves_done, moves_failed, failed_fits, starts_over}
 use Rattle.script.proofs.player.ScriptHost.advance.Goals as goal
 
 pub returns-in-End : goal.returns-in-End
@@ -8,14 +8,14 @@ returns-in-End c =
     let h = c.args.self.now in
     let s = h.bytes.now in
     let here : Here s h.columns h.start h.place h.index = record { good = h.good; every = h.every; begins = h.begins; stands = h.stands } in
-    starts-over s h.columns h.start h.place h.index here (c.in-End.ensures (drop h.index (sheet_at s).outcomes) (at_here s h.columns h.start h.place h.index here))
+    starts_over s h.columns h.start h.place h.index here (c.in-End.ensures (drop h.index (sheet_at s).outcomes) (at_here s h.columns h.start h.place h.index here))
 
 pub overflow_add-result : goal.overflow_add-result
 overflow_add-result c =
     let h = c.args.self.now in
     let s = h.bytes.now in
     let here : Here s h.columns h.start h.place h.index = record { good = h.good; every = h.every; begins = h.begins; stands = h.stands } in
-    let m = moves-row s h.columns h.start h.place h.index c.in-Row.values c.in-Row.next here (c.in-Row.ensures (drop h.index (sheet_at s).outcomes) (at_here s h.columns h.start h.place h.index here)) in
+    let m = moves_row s h.columns h.start h.place h.index c.in-Row.values c.in-Row.next here (c.in-Row.ensures (drop h.index (sheet_at s).outcomes) (at_here s h.columns h.start h.place h.index here)) in
     let small = m.small in
     omega arith
 
@@ -24,14 +24,14 @@ returns-in-Row c =
     let h = c.args.self.now in
     let s = h.bytes.now in
     let here : Here s h.columns h.start h.place h.index = record { good = h.good; every = h.every; begins = h.begins; stands = h.stands } in
-    (moves-row s h.columns h.start h.place h.index c.in-Row.values c.in-Row.next here (c.in-Row.ensures (drop h.index (sheet_at s).outcomes) (at_here s h.columns h.start h.place h.index here))).advanced
+    (moves_row s h.columns h.start h.place h.index c.in-Row.values c.in-Row.next here (c.in-Row.ensures (drop h.index (sheet_at s).outcomes) (at_here s h.columns h.start h.place h.index here))).advanced
 
 pub overflow_add-result-in-Done : goal.overflow_add-result-in-Done
 overflow_add-result-in-Done c =
     let h = c.args.self.now in
     let s = h.bytes.now in
     let here : Here s h.columns h.start h.place h.index = record { good = h.good; every = h.every; begins = h.begins; stands = h.stands } in
-    let m = moves-done s h.columns h.start h.place h.index c.in-Done.next here (c.in-Done.ensures (drop h.index (sheet_at s).outcomes) (at_here s h.columns h.start h.place h.index here)) in
+    let m = moves_done s h.columns h.start h.place h.index c.in-Done.next here (c.in-Done.ensures (drop h.index (sheet_at s).outcomes) (at_here s h.columns h.start h.place h.index here)) in
     let small = m.small in
     omega arith
 
@@ -40,14 +40,14 @@ returns-in-Done c =
     let h = c.args.self.now in
     let s = h.bytes.now in
     let here : Here s h.columns h.start h.place h.index = record { good = h.good; every = h.every; begins = h.begins; stands = h.stands } in
-    (moves-done s h.columns h.start h.place h.index c.in-Done.next here (c.in-Done.ensures (drop h.index (sheet_at s).outcomes) (at_here s h.columns h.start h.place h.index here))).advanced
+    (moves_done s h.columns h.start h.place h.index c.in-Done.next here (c.in-Done.ensures (drop h.index (sheet_at s).outcomes) (at_here s h.columns h.start h.place h.index here))).advanced
 
 pub overflow_add-result-in-Failed : goal.overflow_add-result-in-Failed
 overflow_add-result-in-Failed c =
     let h = c.args.self.now in
     let s = h.bytes.now in
     let here : Here s h.columns h.start h.place h.index = record { good = h.good; every = h.every; begins = h.begins; stands = h.stands } in
-    let m = moves-failed s h.columns h.start h.place h.index c.in-Failed.next c.in-Failed.code here (c.in-Failed.ensures (drop h.index (sheet_at s).outcomes) (at_here s h.columns h.start h.place h.index here)) in
+    let m = moves_failed s h.columns h.start h.place h.index c.in-Failed.next c.in-Failed.code here (c.in-Failed.ensures (drop h.index (sheet_at s).outcomes) (at_here s h.columns h.start h.place h.index here)) in
     let small = m.small in
     omega arith
 
@@ -56,12 +56,12 @@ returns-in-Failed c =
     let h = c.args.self.now in
     let s = h.bytes.now in
     let here : Here s h.columns h.start h.place h.index = record { good = h.good; every = h.every; begins = h.begins; stands = h.stands } in
-    (moves-failed s h.columns h.start h.place h.index c.in-Failed.next c.in-Failed.code here (c.in-Failed.ensures (drop h.index (sheet_at s).outcomes) (at_here s h.columns h.start h.place h.index here))).advanced
+    (moves_failed s h.columns h.start h.place h.index c.in-Failed.next c.in-Failed.code here (c.in-Failed.ensures (drop h.index (sheet_at s).outcomes) (at_here s h.columns h.start h.place h.index here))).advanced
 
 pub overflow_cast-result : goal.overflow_cast-result
 overflow_cast-result c =
     let h = c.args.self.now in
     let s = h.bytes.now in
     let here : Here s h.columns h.start h.place h.index = record { good = h.good; every = h.every; begins = h.begins; stands = h.stands } in
-    let m = failed-fits s h.columns h.start h.place h.index c.in-Failed.next c.in-Failed.code here (c.in-Failed.ensures (drop h.index (sheet_at s).outcomes) (at_here s h.columns h.start h.place h.index here)) in
+    let m = failed_fits s h.columns h.start h.place h.index c.in-Failed.next c.in-Failed.code here (c.in-Failed.ensures (drop h.index (sheet_at s).outcomes) (at_here s h.columns h.start h.place h.index here)) in
     omega arith

@@ -1,12 +1,12 @@
 use Rattle.std.proofs.Common.{refl}
 use Rattle.sheet.specs.Sheet.{heading_line, GoodHeading}
-use Rattle.sheet.proofs.Moves.{heading-long, passes, moved, stuck}
+use Rattle.sheet.proofs.Moves.{heading_long, passes, moved, stuck}
 use Rattle.sheet.proofs.reader.SheetReader.heading.Goals as goal
 
 pub pass-requires : goal.pass-requires
 pass-requires c =
     let r = c.args.self.now in
-    passes heading_line GoodHeading r.bytes.now c.rest.result.now r.place c.in-Some.heading c.in-Some.n c.rest.ensures r.within (heading-long c.in-Some.heading) c.in-Some.ensures
+    passes heading_line GoodHeading r.bytes.now c.rest.result.now r.place c.in-Some.heading c.in-Some.n c.rest.ensures r.within (heading_long c.in-Some.heading) c.in-Some.ensures
 
 pub returns-in_default : goal.returns-in_default
 returns-in_default c =

@@ -1,6 +1,6 @@
 use Rattle.std.proofs.Common.{◌≡◌, ◌∙◌, arith, rules}
 use Rattle.sheet.specs.Sheet.{name_line, GoodName}
-use Rattle.sheet.proofs.Moves.{walked_none, walked_more, walked-breaks, walked_all}
+use Rattle.sheet.proofs.Moves.{walked_none, walked_more, walked_breaks, walked_all}
 use Rattle.sheet.proofs.reader.SheetReader.names.Goals as goal
 
 pub loop-init : goal.loop-init
@@ -11,7 +11,7 @@ returns-in_err-name c =
     let r = c.args.self.now in
     let q = c.loop.self in
     let x = c.in_err-name.ensures in
-    let b = walked-breaks name_line GoodName r.bytes.now r.place r.line c.loop.counter q.bytes.now q.place q.line c.args.columns c.in_err-name.field-0.0.line c.loop.invariant (omega arith) x.read in
+    let b = walked_breaks name_line GoodName r.bytes.now r.place r.line c.loop.counter q.bytes.now q.place q.line c.args.columns c.in_err-name.field-0.0.line c.loop.invariant (omega arith) x.read in
     let e = x.same ∙ c.loop.invariant.same in
     search rules
 

@@ -1,12 +1,12 @@
 use Rattle.std.proofs.Common.{refl}
 use Rattle.sheet.specs.Lines.{head_line, GoodHead}
-use Rattle.sheet.proofs.Moves.{head-long, passes, moved, stuck}
+use Rattle.sheet.proofs.Moves.{head_long, passes, moved, stuck}
 use Rattle.sheet.proofs.reader.SheetReader.outcome.Goals as goal
 
 pub pass-requires : goal.pass-requires
 pass-requires c =
     let r = c.args.self.now in
-    passes head_line (GoodHead c.args.table) r.bytes.now c.rest.result.now r.place c.in-Some.head c.in-Some.n c.rest.ensures r.within (head-long c.in-Some.head) c.in-Some.ensures
+    passes head_line (GoodHead c.args.table) r.bytes.now c.rest.result.now r.place c.in-Some.head c.in-Some.n c.rest.ensures r.within (head_long c.in-Some.head) c.in-Some.ensures
 
 pub returns-in_default : goal.returns-in_default
 returns-in_default c =

@@ -1,7 +1,7 @@
 use Rattle.std.proofs.Common.{sym, refl, ap, ◌∙◌, subst}
 use Rattle.sheet.specs.Sheet.{value_line, GoodValue}
 use Rattle.sheet.specs.Lines.{Reads, cell_of, CellWithin}
-use Rattle.sheet.proofs.Moves.{value-long, passes, moved, stuck}
+use Rattle.sheet.proofs.Moves.{value_long, passes, moved, stuck}
 use Rattle.sheet.proofs.reader.SheetReader.value.Goals as goal
 
 pub cell_on-value-requires : goal.cell_on-value-requires
@@ -14,7 +14,7 @@ pass-requires c =
     let r = c.args.self.now in
     let t = c.rest-rest.result.now in
     let v = cell_of t c.in-Some.cell in
-    passes value_line GoodValue r.bytes.now t r.place v c.in-Some.n c.rest-rest.ensures r.within (value-long v) c.in-Some.ensures.0
+    passes value_line GoodValue r.bytes.now t r.place v c.in-Some.n c.rest-rest.ensures r.within (value_long v) c.in-Some.ensures.0
 
 pub returns-in_default : goal.returns-in_default
 returns-in_default c =

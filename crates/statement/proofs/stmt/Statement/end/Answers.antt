@@ -1,7 +1,7 @@
 use Rattle.std.proofs.Common.{Ok, Err, ap, ◌∙◌}
 use Rattle.std.proofs.lemmas.Result.{err_from_is_err_and}
 use Rattle.statement.specs.State.{state_of}
-use Rattle.statement.proofs.Called.{end_refused, end-passed}
+use Rattle.statement.proofs.Called.{end_refused, end_passed}
 use Rattle.statement.proofs.stmt.Statement.end.Goals as goal
 
 pub returns-in_err-may_go_on : goal.returns-in_err-may_go_on
@@ -14,5 +14,5 @@ returns-in_err-may_go_on g c =
 pub returns : goal.returns
 returns g c =
     let s = state_of g.X.Host.meaning c.args.self.now in
-    let x = end-passed s c.args.text.now c.args.room.now c.may_go_on.result c.may_go_on.ensures c.in_ok-may_go_on.was in
+    let x = end_passed s c.args.text.now c.args.room.now c.may_go_on.result c.may_go_on.ensures c.in_ok-may_go_on.was in
     record { answer = ap Ok c.give_back.ensures.answer ∙ x.0; after = c.give_back.ensures.after ∙ x.1; room = c.give_back.ensures.room ∙ x.2 }

@@ -53,10 +53,21 @@ def words():
     return found
 
 
-def respell(turned):
-    for f in antt() + rest():
+# Comments are prose: in a line of a source, what stands behind its comment mark keeps its words.
+COMMENT = {".antt": re.compile(r"(?:^|\s)--(?:\s|$)"), ".rt": re.compile(r"(?:^|\s)//(?:\s|$)")}
+
+
+def respelled(line, mark, turned):
+    at = mark.search(line) if mark else None
+    code, prose = (line[: at.start()], line[at.start() :]) if at else (line, "")
+    return WORD.sub(lambda m: turned.get(m.group(0), m.group(0)), code) + prose
+
+
+def respell(turned, among):
+    for f in among:
         text = open(f).read()
-        new = WORD.sub(lambda m: turned.get(m.group(0), m.group(0)), text)
+        mark = COMMENT.get(f[f.rfind(".") :])
+        new = "\n".join(respelled(line, mark, turned) for line in text.split("\n"))
         if new != text:
             open(f, "w").write(new)
     print(f"{len(turned)} names respelled")
@@ -70,10 +81,10 @@ def camel():
             turned[name] = CAMEL.sub(lambda m: "_" + m.group(1).lower(), name)
             if turned[name] in seen:
                 print(f"falls together: {name} and {turned[name]}")
-    respell(turned)
+    respell(turned, antt() + rest())
 
 
-# A field of specs/ reads as a word, and so does a lemma.
+# A field of specs/ reads as a word, and so does a lemma. Documents have words with dashes of their own.
 def dashed():
     seen = words()
     turned = {}
@@ -85,7 +96,7 @@ def dashed():
                 new += "_lem"
             turned[name] = new
             seen.add(new)
-    respell(turned)
+    respell(turned, antt())
 
 
 camel()

@@ -87,7 +87,7 @@ abbrev pub Holding : Bool → State → Type 0
 Holding false s = (s.leases ≡ []) × Plain s.host.slots
 Holding true s = Bound s
 
--- what the host keeps from set_up_lem, between any two calls
+-- what the host keeps from set-up, between any two calls
 pub record Rests (m n : Meaning) : Type 0 where
   pub params : n.params ≡ m.params
   pub start : n.start ≡ m.start
@@ -466,7 +466,7 @@ kept_turn m h s (bind query ps) d k = bind_turn m h s query ps d k
 kept_turn m h s execute d k = execute_turn m h s d k
 kept_turn m h s end d k = end_turn m h s d k
 
--- set_up_lem
+-- set-up
 pub kept_start : (m : Meaning) → length m.slots ≡ m.params → Kept m [] (set_up m)
 unfolding reset_after live_in steps_in accepted_in returned_in slots_in AllRight
 kept_start m e =

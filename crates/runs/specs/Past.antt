@@ -142,7 +142,7 @@ slots_by (stepped n) ss = map forget ss
 slots_by (ended n) ss = map forget ss
 slots_by nothing ss = ss
 
--- The slots after the past: all null at set_up_lem.
+-- The slots after the past: all null at set-up.
 unfoldable pub slots_in : ℕ → Past → List Slot
 slots_in params [] = replicate params slot.Null
 slots_in params (t ∷ h) = slots_by (event_of t) (slots_in params h)
@@ -224,7 +224,7 @@ room_slots (s ∷ ss) = names_room s + room_slots ss
 abbrev pub BuffersKept : Past → State → Type 0
 BuffersKept h s = accepted_in h ≡ returned_in h + room_slots s.host.slots
 
--- Copies: those found at set_up_lem stand for their values, and there are no others.
+-- Copies: those found at set-up stand for their values, and there are no others.
 pub record Copies (m : Meaning) (s : State) : Type 0 where
   pub stand : s.host.live ≡ m.live
   pub count : s.host.count ≡ m.count

@@ -144,7 +144,7 @@ unfoldable pub answers_to : At → List Turn → List Answer
 answers_to a [] = []
 answers_to a (t ∷ ts) = turn_says a t ∷ answers_to (turn_goes a t) ts
 
--- The answers, the statement and the buffers are fixed by the host as it was at set_up_lem and by the turns alone.
+-- The answers, the statement and the buffers are fixed by the host as it was at set-up and by the turns alone.
 pub record Answers (m : Meaning) (ts : List Turn) (rs : List Answer) (s : State) (d : Desk) : Type 0 where
   pub told : rs ≡ answers_to (starting m) ts
   pub ends : ◌≡◌ {A = At} (record { state = s; desk = d }) (after_all (starting m) ts)

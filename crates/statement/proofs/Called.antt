@@ -145,7 +145,7 @@ executed s s₁ s₂ txt room room₂ a code n x ea e₁ ec en e₂ er =
     let l : s₁.leases ≡ s.leases = ap (λ (z : State). z.leases) e₁ in
     (ap₂ stepped_says ea (en ∙ ap length l) ∙ x.says, e₂ ∙ (ap₂ returned_state e₁ (ec ∙ ap report_code ea) ∙ x.goes), er ∙ (ap (λ z. zeroed z room) l ∙ x.leaves))
 
--- set_up_lem
+-- set-up
 pub set_up_lem : (m m₁ m₂ : Meaning) (ls : List Span) (is : List ℕ) → m₁ ≡ reset_after m → m₂ ≡ nulled m₁ (count_up 1 m₁.params) → ls ≡ [] → is ≡ [] → ◌≡◌ {A = State} (record { host = m₂; binding = AtRest; held = 0; query = 0; leases = ls; nulls = is; lengths = record { text = 0; room = 0 }; steps = 0; report = None }) (set_up m)
 unfolding reset_after
 set_up_lem m m₁ m₂ ls is e f el ei =

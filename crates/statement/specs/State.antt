@@ -21,7 +21,7 @@ pub record State : Type 0 where
   pub leases : List Span
   pub nulls : List ℕ
   pub lengths : Lengths
-  -- how many steps were made since set_up_lem
+  -- how many steps were made since set-up
   pub steps : ℕ
   -- the latest report, if there was one
   pub report : Option Report

@@ -84,7 +84,8 @@ impl Values {
     }
 
     fn kept(&mut self, ownership: Ownership, s: &[u8], part: Part) -> Result<Span, CallFault>
-        requires { (part.from + part.len ≤ length s.now) × (Roomy (bundle_of self.old)) }
+        requires inside { part.from + part.len ≤ length s.now }
+        requires roomy { Roomy (bundle_of self.old) }
         ensures { MatchResult result
             (λ span. (span ≡ next_span ownership (part_of s.now part) (bundle_of self.old)) × (bundle_of self.new ≡ with_bytes ownership (part_of s.now part) (bundle_of self.old)) × Roomy (with_bytes ownership (part_of s.now part) (bundle_of self.old)))
             (Because (Roomy (with_bytes ownership (part_of s.now part) (bundle_of self.old)) → ⊥)) }
@@ -100,7 +101,8 @@ impl Values {
 
     // The value that a line holds, with its bytes taken into the text or the given bytes.
     fn value(&mut self, s: &[u8], content: Content) -> Result<SqliteBindValue, CallFault>
-        requires { (ContentWithin (length s.now) content) × (Roomy (bundle_of self.old)) }
+        requires inside { ContentWithin (length s.now) content }
+        requires roomy { Roomy (bundle_of self.old) }
         ensures { MatchResult result
             (λ v. TakenIn (bundle_of self.old) (bundle_of self.new) (datum_of s.now content) v)
             (Because (Roomy (with_datum (datum_of s.now content) (bundle_of self.old)) → ⊥)) }

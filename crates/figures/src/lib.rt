@@ -112,7 +112,8 @@ pub fn piece(s: &[u8], least: u64, most: u64) -> Option<Part>
 const HALF: u64 = 9223372036854775808;
 
 fn negated(m: u64) -> i64
-    requires { (0 < m) × (m ≤ 2 ^ 63) }
+    requires some { 0 < m }
+    requires fits { m ≤ 2 ^ 63 }
     ensures { result ≡ negsuc (m - 1) }
 {
     -1 - ((m - 1) as i64)

@@ -69,9 +69,9 @@ fn make_call<X: Host>(
     given: &[u8],
     room: &mut [u8],
 ) -> Answer
-    ensures answer { result ≡ says (state_of X.Host.meaning statement.old) (asked call.now) (record { text = text.entry.now; given = given.now; room = room.old }) }
-    ensures after { state_of X.Host.meaning statement.new ≡ goes (state_of X.Host.meaning statement.old) (asked call.now) (record { text = text.entry.now; given = given.now; room = room.old }) }
-    ensures room { room.new ≡ leaves (state_of X.Host.meaning statement.old) (asked call.now) (record { text = text.entry.now; given = given.now; room = room.old }) }
+    ensures answer { result ≡ says (state_of X.Host.meaning statement.old) (asked call.now) (record { text = text.now; given = given.now; room = room.old }) }
+    ensures after { state_of X.Host.meaning statement.new ≡ goes (state_of X.Host.meaning statement.old) (asked call.now) (record { text = text.now; given = given.now; room = room.old }) }
+    ensures room { room.new ≡ leaves (state_of X.Host.meaning statement.old) (asked call.now) (record { text = text.now; given = given.now; room = room.old }) }
 {
     match call {
         Call::Bind { query, pairs } => bound(statement.bind(
@@ -128,9 +128,9 @@ fn make_call_in<X: Host>(
     given: &[u8],
     room: &mut Vec<u8>,
 ) -> Answer
-    ensures answer { result ≡ says (state_of X.Host.meaning statement.old) (asked call.now) (record { text = text.entry.now; given = given.now; room = room.old.items }) }
-    ensures after { state_of X.Host.meaning statement.new ≡ goes (state_of X.Host.meaning statement.old) (asked call.now) (record { text = text.entry.now; given = given.now; room = room.old.items }) }
-    ensures room { room.new.items ≡ leaves (state_of X.Host.meaning statement.old) (asked call.now) (record { text = text.entry.now; given = given.now; room = room.old.items }) }
+    ensures answer { result ≡ says (state_of X.Host.meaning statement.old) (asked call.now) (record { text = text.now; given = given.now; room = room.old.items }) }
+    ensures after { state_of X.Host.meaning statement.new ≡ goes (state_of X.Host.meaning statement.old) (asked call.now) (record { text = text.now; given = given.now; room = room.old.items }) }
+    ensures room { room.new.items ≡ leaves (state_of X.Host.meaning statement.old) (asked call.now) (record { text = text.now; given = given.now; room = room.old.items }) }
 {
     make_call(statement, call, text, given, room.as_mut_slice())
 }

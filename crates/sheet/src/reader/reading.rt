@@ -13,7 +13,8 @@ use figures::Part;
 // The part that stands `by` bytes further on.
 fn part_on(part: Part, by: usize) -> Part
     requires { part.from + by < 2 ^ 64 }
-    ensures { (result.from ≡ by + part.from) × (result.len ≡ part.len) }
+    ensures place { result.from ≡ by + part.from }
+    ensures size { result.len ≡ part.len }
 {
     Part {
         from: by + part.from,
@@ -23,7 +24,8 @@ fn part_on(part: Part, by: usize) -> Part
 
 // What the cell stands for in the bytes from `by` on, as a cell of all of them.
 fn cell_on(cell: Cell, by: usize, bytes: &[u8]) -> Cell
-    requires { (by ≤ length bytes.now) × (CellWithin (drop by bytes.now) cell) }
+    requires place { by ≤ length bytes.now }
+    requires inside { CellWithin (drop by bytes.now) cell }
     ensures same { cell_of bytes.now result ≡ cell_of (drop by bytes.now) cell }
     ensures within { CellWithin bytes.now result }
 {
@@ -96,7 +98,8 @@ impl<'a> SheetReader<'a> {
 
     // Past a line of `n` bytes.
     fn pass(&mut self, n: usize)
-        requires { (0 < n) × (self.old.place + n ≤ length self.old.bytes.now) }
+        requires some { 0 < n }
+        requires inside { self.old.place + n ≤ length self.old.bytes.now }
         ensures place { self.new.place ≡ self.old.place + n }
         ensures line { self.new.line ≡ self.old.line + 1 }
         ensures same { self.new.bytes.now ≡ self.old.bytes.now }

@@ -6,7 +6,8 @@ use Rattle.sheet.proofs.reader.SheetReader.heading.Goals as goal
 pub pass-requires : goal.pass-requires
 pass-requires c =
     let r = c.args.self.now in
-    passes heading_line GoodHeading r.bytes.now c.rest.result.now r.place c.in-Some.heading c.in-Some.n c.rest.ensures r.within (heading_long c.in-Some.heading) c.in-Some.ensures
+    let p = passes heading_line GoodHeading r.bytes.now c.rest.result.now r.place c.in-Some.heading c.in-Some.n c.rest.ensures r.within (heading_long c.in-Some.heading) c.in-Some.ensures in
+    record { some = p.0; inside = p.1 }
 
 pub returns-in_default : goal.returns-in_default
 returns-in_default c =

@@ -16,7 +16,8 @@ pub pass-requires : goal.pass-requires
 pass-requires c =
     let r = c.args.self.now in
     let t = c.rest.result.now in
-    passes name_line GoodName r.bytes.now t r.place (part_of t c.in-Some.part) c.in-Some.n c.rest.ensures r.within (omega arith) c.in-Some.ensures.0
+    let p = passes name_line GoodName r.bytes.now t r.place (part_of t c.in-Some.part) c.in-Some.n c.rest.ensures r.within (omega arith) c.in-Some.ensures.0 in
+    record { some = p.0; inside = p.1 }
 
 pub returns-in_default : goal.returns-in_default
 returns-in_default c =
@@ -31,6 +32,6 @@ returns c =
     let a = c.in-Some.part in
     let b = c.part_on-name.result in
     let on = c.part_on-name.ensures in
-    let e = part_same s t r.place a b c.rest.ensures on.0 on.1 in
+    let e = part_same s t r.place a b c.rest.ensures on.place on.size in
     let m : Reads name_line GoodName t (part_of s b) c.in-Some.n = rw e at c.in-Some.ensures.0 in
-    record { read = (moved name_line GoodName s t r.place r.line (part_of s b) c.in-Some.n c.pass.new.self.place c.pass.new.self.line c.rest.ensures r.within m c.pass.ensures.place c.pass.ensures.line, part_in s t r.place a b c.rest.ensures r.within on.0 on.1 c.in-Some.ensures.1); same = c.pass.ensures.same }
+    record { read = (moved name_line GoodName s t r.place r.line (part_of s b) c.in-Some.n c.pass.new.self.place c.pass.new.self.line c.rest.ensures r.within m c.pass.ensures.place c.pass.ensures.line, part_in s t r.place a b c.rest.ensures r.within on.place on.size c.in-Some.ensures.1); same = c.pass.ensures.same }

@@ -6,7 +6,8 @@ use Rattle.sheet.proofs.reader.SheetReader.parameter.Goals as goal
 pub pass-requires : goal.pass-requires
 pass-requires c =
     let r = c.args.self.now in
-    passes param_line (GoodParam c.args.columns) r.bytes.now c.rest.result.now r.place c.in-Some.column c.in-Some.n c.rest.ensures r.within (omega arith) c.in-Some.ensures
+    let p = passes param_line (GoodParam c.args.columns) r.bytes.now c.rest.result.now r.place c.in-Some.column c.in-Some.n c.rest.ensures r.within (omega arith) c.in-Some.ensures in
+    record { some = p.0; inside = p.1 }
 
 pub returns-in_default : goal.returns-in_default
 returns-in_default c =

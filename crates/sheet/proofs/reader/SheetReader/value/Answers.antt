@@ -7,14 +7,15 @@ use Rattle.sheet.proofs.reader.SheetReader.value.Goals as goal
 pub cell_on-value-requires : goal.cell_on-value-requires
 cell_on-value-requires c =
     let r = c.args.self.now in
-    (r.within, subst (λ z. CellWithin z c.in-Some.cell) c.rest-rest.ensures c.in-Some.ensures.1)
+    record { place = r.within; inside = subst (λ z. CellWithin z c.in-Some.cell) c.rest-rest.ensures c.in-Some.ensures.1 }
 
 pub pass-requires : goal.pass-requires
 pass-requires c =
     let r = c.args.self.now in
     let t = c.rest-rest.result.now in
     let v = cell_of t c.in-Some.cell in
-    passes value_line GoodValue r.bytes.now t r.place v c.in-Some.n c.rest-rest.ensures r.within (value_long v) c.in-Some.ensures.0
+    let p = passes value_line GoodValue r.bytes.now t r.place v c.in-Some.n c.rest-rest.ensures r.within (value_long v) c.in-Some.ensures.0 in
+    record { some = p.0; inside = p.1 }
 
 pub returns-in_default : goal.returns-in_default
 returns-in_default c =

@@ -7,7 +7,7 @@ use Rattle.binds.specs.declared.collector.Span.{Span}
 use Rattle.binds.specs.declared.collector.SqliteBindValue.{SqliteBindValue}
 use Rattle.binds.specs.declared.refusal.Refusal.{Refusal}
 use Rattle.binds.specs.declared.taking.Unbindable.{Unbindable}
-use Rattle.binds.specs.Pairs.{Pair, span_fits, all_fit, span_length, owned_span, room_bytes, lease_of, leases_from, span_bytes, owned_bytes, takes_bytes, number_if, byte_slots}
+use Rattle.binds.specs.Pairs.{Pair, span_fits, all_fit, span_length, owned_span, total_room_bytes, lease_of, leases_from, span_bytes, owned_bytes, takes_bytes, number_if, byte_slots}
 use Rattle.binds.specs.Tried.{Tried, tried, one_why, one_after, why_answer, go_on, bind_from, refusal_at, tried_answer}
 use Rattle.binds.specs.Pairs.{written_room}
 
@@ -26,13 +26,13 @@ fit_head n f ps i d h e =
     both true b e = (refl, e)
     both false b e = let z : ◌≡◌ {A = ℕ} 0 1 = cc in absurd (omega arith)
 
-pub bytes_head : (ps : List Pair) (i : ℕ) (d : Pair) → i < length ps → room_bytes (drop i ps) ≡ span_length (owned_span (get_or ps i d).1) + room_bytes (drop (i + 1) ps)
-unfolding room_bytes
-bytes_head ps i d h = at_drop_more room_bytes ps i d h
+pub bytes_head : (ps : List Pair) (i : ℕ) (d : Pair) → i < length ps → total_room_bytes (drop i ps) ≡ span_length (owned_span (get_or ps i d).1) + total_room_bytes (drop (i + 1) ps)
+unfolding total_room_bytes
+bytes_head ps i d h = at_drop_more total_room_bytes ps i d h
 
-pub bytes_none : (ps : List Pair) (i : ℕ) → length ps ≤ i → room_bytes (drop i ps) ≡ 0
-unfolding room_bytes
-bytes_none ps i h = at_drop_all room_bytes ps i h
+pub bytes_none : (ps : List Pair) (i : ℕ) → length ps ≤ i → total_room_bytes (drop i ps) ≡ 0
+unfolding total_room_bytes
+bytes_none ps i h = at_drop_all total_room_bytes ps i h
 
 -- leases
 pub leases_step : (ls : List Span) (used : ℕ) (ps : List Pair) (i : ℕ) (d : Pair) → i < length ps → ls ++ leases_from used (drop i ps) ≡ leases_from 0 ps → (ls ++ lease_of used (owned_span (get_or ps i d).1)) ++ leases_from (used + span_length (owned_span (get_or ps i d).1)) (drop (i + 1) ps) ≡ leases_from 0 ps
@@ -148,11 +148,11 @@ room_step ps given room room' room₀ i at d h fit same inside e f g =
         let x = length-drop s.start given in
         length-take-le s.len (drop s.start given) (omega arith)
 
-pub room_end : (ps : List Pair) (given room room₀ : List ℕ) (i at : ℕ) → length ps ≤ i → take at room ++ owned_bytes given (drop i ps) ≡ owned_bytes given ps → drop at room ≡ drop at room₀ → at + room_bytes (drop i ps) ≡ room_bytes ps → room ≡ written_room ps given room₀
+pub room_end : (ps : List Pair) (given room room₀ : List ℕ) (i at : ℕ) → length ps ≤ i → take at room ++ owned_bytes given (drop i ps) ≡ owned_bytes given ps → drop at room ≡ drop at room₀ → at + total_room_bytes (drop i ps) ≡ total_room_bytes ps → room ≡ written_room ps given room₀
 unfolding owned_bytes written_room
 room_end ps given room room₀ i at h e f g =
     let z = bytes_none ps i h in
-    let n : at ≡ room_bytes ps = omega arith in
+    let n : at ≡ total_room_bytes ps = omega arith in
     let a : take at room ≡ owned_bytes given ps = sym (append-nil (take at room)) ∙ (ap (λ r. take at room ++ r) (sym (at_drop_all (owned_bytes given) ps i h)) ∙ e) in
     sym (take-append-drop at room) ∙ ap₂ ◌++◌ a (f ∙ ap (λ k. drop k room₀) n)
 
@@ -188,11 +188,11 @@ room_turn ps given room room' room₀ i at n d o h fit same inside e f eo en g =
 -- entering one more lease
 pub record Entering (ps : List Pair) (i : ℕ) (ls : List Span) (u room : ℕ) : Type 0 where
   pub leases : ls ++ leases_from u (drop i ps) ≡ leases_from 0 ps
-  pub used : u + room_bytes (drop i ps) ≡ room_bytes ps
+  pub used : u + total_room_bytes (drop i ps) ≡ total_room_bytes ps
   pub fits : u ≤ room
   pub few : length ls ≤ i
 
-pub entering : {U E : Type 0} (ps : List Pair) (i : ℕ) (d : Pair) (ls ls' : List Span) (used used' room : ℕ) (o : Option Span) (r : Result U E) (u : U) → i < length ps → ls ++ leases_from used (drop i ps) ≡ leases_from 0 ps → used + room_bytes (drop i ps) ≡ room_bytes ps → length ls ≤ i → o ≡ owned_span (get_or ps i d).1 → is_ok r ≡ leb (used + span_length o) room → r ≡ Ok u → used' ≡ cond (is_ok r) (used + span_length o) used → ls' ≡ cond (is_ok r) (ls ++ lease_of used o) ls → Entering ps (i + 1) ls' used' room
+pub entering : {U E : Type 0} (ps : List Pair) (i : ℕ) (d : Pair) (ls ls' : List Span) (used used' room : ℕ) (o : Option Span) (r : Result U E) (u : U) → i < length ps → ls ++ leases_from used (drop i ps) ≡ leases_from 0 ps → used + total_room_bytes (drop i ps) ≡ total_room_bytes ps → length ls ≤ i → o ≡ owned_span (get_or ps i d).1 → is_ok r ≡ leb (used + span_length o) room → r ≡ Ok u → used' ≡ cond (is_ok r) (used + span_length o) used → ls' ≡ cond (is_ok r) (ls ++ lease_of used o) ls → Entering ps (i + 1) ls' used' room
 entering ps i d ls ls' used used' room o r u h el eu few eo ea er fu fl =
     let b = bytes_head ps i d h in
     let so = ap span_length eo in
@@ -210,18 +210,18 @@ entering ps i d ls ls' used used' room o r u h el eu few eo ea er fu fl =
       few = more_leases ls ls' used i o l' few;
     }
 
-pub full_says : {U E : Type 0} (ps : List Pair) (i : ℕ) (d : Pair) (used room : ℕ) (o : Option Span) (r : Result U E) {x : E} → i < length ps → used + room_bytes (drop i ps) ≡ room_bytes ps → o ≡ owned_span (get_or ps i d).1 → is_ok r ≡ leb (used + span_length o) room → r ≡ Err x → leb (room_bytes ps) room ≡ false
+pub full_says : {U E : Type 0} (ps : List Pair) (i : ℕ) (d : Pair) (used room : ℕ) (o : Option Span) (r : Result U E) {x : E} → i < length ps → used + total_room_bytes (drop i ps) ≡ total_room_bytes ps → o ≡ owned_span (get_or ps i d).1 → is_ok r ≡ leb (used + span_length o) room → r ≡ Err x → leb (total_room_bytes ps) room ≡ false
 full_says ps i d used room o r h eu eo ea er =
     let b = bytes_head ps i d h in
     let so = ap span_length eo in
     let no : leb (used + span_length o) room ≡ false = sym ea ∙ ap is_ok er in
     let lt = leb-false (used + span_length o) room no in
-    lt-leb (room_bytes ps) room (omega arith)
+    lt-leb (total_room_bytes ps) room (omega arith)
 
-pub whole_says : (ps : List Pair) (i used room : ℕ) → length ps ≤ i → used + room_bytes (drop i ps) ≡ room_bytes ps → used ≤ room → true ≡ leb (room_bytes ps) room
+pub whole_says : (ps : List Pair) (i used room : ℕ) → length ps ≤ i → used + total_room_bytes (drop i ps) ≡ total_room_bytes ps → used ≤ room → true ≡ leb (total_room_bytes ps) room
 whole_says ps i used room h eu f =
     let z = bytes_none ps i h in
-    sym (le-leb (room_bytes ps) room (omega arith))
+    sym (le-leb (total_room_bytes ps) room (omega arith))
 
 pub never : ◌≡◌ {A = Bool} true false → ⊥
 never e = let z : ◌≡◌ {A = ℕ} 0 1 = cc in omega arith

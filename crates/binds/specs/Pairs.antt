@@ -97,9 +97,9 @@ owned_count [] = 0
 owned_count (p ∷ ps) = one_if (owned_span p.1) + owned_count ps
 
 -- The bytes that they take in the room.
-unfoldable pub room_bytes : List Pair → ℕ
-room_bytes [] = 0
-room_bytes (p ∷ ps) = span_length (owned_span p.1) + room_bytes ps
+unfoldable pub total_room_bytes : List Pair → ℕ
+total_room_bytes [] = 0
+total_room_bytes (p ∷ ps) = span_length (owned_span p.1) + total_room_bytes ps
 
 -- Their leases: the first from a place of the room on, the next where it ends.
 abbrev pub lease_of : ℕ → Option Span → List Span
@@ -144,4 +144,4 @@ slot_for at Null = slot.Null
 
 -- The room once the owned values are copied into it, one after the other from its start.
 unfoldable pub written_room : List Pair → List ℕ → List ℕ → List ℕ
-written_room ps given room = owned_bytes given ps ++ drop (room_bytes ps) room
+written_room ps given room = owned_bytes given ps ++ drop (total_room_bytes ps) room

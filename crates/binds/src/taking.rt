@@ -2,7 +2,7 @@
 ghost use Rattle.std.specs.Prelude.{◌≡◌, ℕ, ◌+◌, ◌<◌, ◌≤◌, Bool, true, false, List, [], ◌∷◌, ◌++◌, length, take, drop, is_ok, nat_le};
 ghost use Rattle.host.specs.Slots.{lent, slot_of};
 ghost use Rattle.host.specs.declared.Slot.{Slot};
-ghost use Rattle.binds.specs.Pairs.{slot_for, borrowed_span, owned_span, span_fits, span_length, span_bytes, takes_bytes, number_if, all_fit, room_bytes, byte_slots, leases_from, owned_bytes};
+ghost use Rattle.binds.specs.Pairs.{slot_for, borrowed_span, owned_span, span_fits, span_length, span_bytes, takes_bytes, number_if, all_fit, total_room_bytes, byte_slots, leases_from, owned_bytes};
 ghost use Rattle.binds.specs.Leases.{leases_of, slots_of};
 ghost use Rattle.binds.specs.Tried.{fault_unbindable, one_why, one_after, why_answer, bind_from, tried_answer, refusal_at};
 ghost use Rattle.binds.specs.Pairs.{written_room};
@@ -157,7 +157,7 @@ pub fn bind_values<X: Host>(
     requires few { length pairs.now ≤ 32 }
     requires none { slots_of took.old ≡ [] }
     requires borrowed { all_fit (length text.now) borrowed_span pairs.now ≡ true }
-    requires owned { room_bytes pairs.now ≤ length room.now }
+    requires owned { total_room_bytes pairs.now ≤ length room.now }
     ensures answer { result ≡ tried_answer (bind_from (X.Host.meaning host.old) 0 0 pairs.now) }
     ensures after { X.Host.meaning host.new ≡ (bind_from (X.Host.meaning host.old) 0 0 pairs.now).host }
     ensures took { slots_of took.new ≡ byte_slots 1 (take (bind_from (X.Host.meaning host.old) 0 0 pairs.now).bound pairs.now) }
@@ -182,7 +182,7 @@ pub fn enter_leases(
     requires few { length pairs.now ≤ 32 }
     requires none { leases_of collecting.old.ledger.now ≡ [] }
     requires unused { collecting.old.ledger.now.used ≡ 0 }
-    ensures answer { is_ok result ≡ nat_le (room_bytes pairs.now) room }
+    ensures answer { is_ok result ≡ nat_le (total_room_bytes pairs.now) room }
     ensures leases { is_ok result ≡ true → leases_of collecting.new.ledger.now ≡ leases_from 0 pairs.now }
     ensures before { collecting.new.before ≡ collecting.old.before }
     ensures lender { collecting.new.ledger.ghost_name ≡ collecting.old.ledger.ghost_name }
@@ -229,7 +229,7 @@ fn write_one(owned: Option<Span>, given: &[u8], room: &mut [u8], at: usize)
 // Copies each owned value into its own stretch of the room, one after the other from its start.
 pub fn write_owned(pairs: &[(SqliteType, SqliteBindValue)], given: &[u8], room: &mut [u8])
     requires inside { all_fit (length given.now) owned_span pairs.now ≡ true }
-    requires fits { room_bytes pairs.now ≤ length room.old }
+    requires fits { total_room_bytes pairs.now ≤ length room.old }
     ensures { room.new ≡ written_room pairs.now given.now room.old }
 {
     let mut at = 0;

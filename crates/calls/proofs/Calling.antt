@@ -12,23 +12,23 @@ use Rattle.runs.specs.Turns as run
 use Rattle.runs.specs.declared.turns.Turn.{Turn}
 use Rattle.runs.specs.declared.turns.Lent.{Lent}
 use Rattle.runs.specs.declared.turns.Lent.TheVariants.{Kept}
-use Rattle.calls.specs.Items.{item_line}
+use Rattle.calls.specs.Items.{rendered_item}
 use Rattle.calls.specs.Binds.{Bundle, ValuesRead, NoLines}
 use Rattle.calls.proofs.Taking.{all_push, joined_push}
-use Rattle.calls.specs.Calls.{Given, bind, execute, end, bind_line, call_lines, call_letter, GoodHead, GoodCall, fresh_bytes, TurnFor, TurnRead, TurnsFor, CallsRead}
+use Rattle.calls.specs.Calls.{Given, bind, execute, end, rendered_bind, call_lines, call_letter, GoodHead, GoodCall, fresh_bytes, TurnFor, TurnRead, TurnsFor, CallsRead}
 
 -- The first line of a bind.
-pub bind_first : (s : List ℕ) → NoFigure 32 4294967295 (drop 2 s) → Lacks bind_line GoodHead s
+pub bind_first : (s : List ℕ) → NoFigure 32 4294967295 (drop 2 s) → Lacks rendered_bind GoodHead s
 bind_first s f = λ h rest g e. f h.0 (decimal h.1 ++ (10 ∷ rest)) g.0 (ap (drop 2) e ∙ flat_piece (decimal h.0) (decimal h.1) rest)
 
-pub bind_second : (s : List ℕ) (query j : ℕ) → Figured 32 4294967295 (drop 2 s) query j → NoFigure 10 4294967295 (drop (2 + j) s) → Lacks bind_line GoodHead s
+pub bind_second : (s : List ℕ) (query j : ℕ) → Figured 32 4294967295 (drop 2 s) query j → NoFigure 10 4294967295 (drop (2 + j) s) → Lacks rendered_bind GoodHead s
 bind_second s query j f lacks = λ h rest g e.
     let small = f.small in
     let b = g.0 in
     let same = figure_free query h.0 32 32 (drop j (drop 2 s)) (decimal h.1 ++ (10 ∷ rest)) (omega arith) (omega arith) (omega arith) (omega arith) (sym f.begins ∙ (ap (drop 2) e ∙ flat_piece (decimal h.0) (decimal h.1) rest)) in
     lacks h.1 rest g.1 (sym (drop-drop j 2 s) ∙ same.rests)
 
-pub bind_reads : (s : List ℕ) (query count j k : ℕ) → s ≡ 98 ∷ (32 ∷ drop 2 s) → Figured 32 4294967295 (drop 2 s) query j → Figured 10 4294967295 (drop (2 + j) s) count k → Reads bind_line GoodHead s (query, count) (2 + j + k)
+pub bind_reads : (s : List ℕ) (query count j k : ℕ) → s ≡ 98 ∷ (32 ∷ drop 2 s) → Figured 32 4294967295 (drop 2 s) query j → Figured 10 4294967295 (drop (2 + j) s) count k → Reads rendered_bind GoodHead s (query, count) (2 + j + k)
 bind_reads s query count j k o f g =
     let a = f.begins in
     let b = g.begins in
@@ -44,7 +44,7 @@ bind_reads s query count j k o f g =
     let gw = g.within in
     record { good = (f.small, g.small); begins = cc; size = simp length-append (omega arith); within = omega arith }
 
-bind_free : (query count query' count' : ℕ) (r t : List ℕ) → GoodHead (query, count) → GoodHead (query', count') → bind_line (query, count) ++ r ≡ bind_line (query', count') ++ t → (count ≡ count') × (r ≡ t)
+bind_free : (query count query' count' : ℕ) (r t : List ℕ) → GoodHead (query, count) → GoodHead (query', count') → rendered_bind (query, count) ++ r ≡ rendered_bind (query', count') ++ t → (count ≡ count') × (r ≡ t)
 bind_free query count query' count' r t g h q =
     let a = g.0 in
     let b = g.1 in
@@ -55,15 +55,15 @@ bind_free query count query' count' r t g h q =
     (k.figures, k.rests)
 
 -- No call.
-pub call_none : (r : List ℕ) → (r ≡ 120 ∷ (10 ∷ drop 2 r) → ⊥) → (r ≡ 101 ∷ (10 ∷ drop 2 r) → ⊥) → Lacks bind_line GoodHead r → Lacks call_lines GoodCall r
-call_none r x e b (bind query es) rest g h = b (query, length es) (flat_map item_line es ++ rest) g.0 (h ∙ append_assoc (bind_line (query, length es)) (flat_map item_line es) rest)
+pub call_none : (r : List ℕ) → (r ≡ 120 ∷ (10 ∷ drop 2 r) → ⊥) → (r ≡ 101 ∷ (10 ∷ drop 2 r) → ⊥) → Lacks rendered_bind GoodHead r → Lacks call_lines GoodCall r
+call_none r x e b (bind query es) rest g h = b (query, length es) (flat_map rendered_item es ++ rest) g.0 (h ∙ append_assoc (rendered_bind (query, length es)) (flat_map rendered_item es) rest)
 call_none r x e b execute rest g h = x (h ∙ ap (λ l. 120 ∷ (10 ∷ l)) (sym (ap (drop 2) h)))
 call_none r x e b end rest g h = e (h ∙ ap (λ l. 101 ∷ (10 ∷ l)) (sym (ap (drop 2) h)))
 
-pub call_short : (s : List ℕ) (p query count n : ℕ) → Reads bind_line GoodHead (drop p s) (query, count) n → NoLines s (p + n) count → Lacks call_lines GoodCall (drop p s)
+pub call_short : (s : List ℕ) (p query count n : ℕ) → Reads rendered_bind GoodHead (drop p s) (query, count) n → NoLines s (p + n) count → Lacks call_lines GoodCall (drop p s)
 call_short s p query count n r f (bind query' es) rest g h =
-    let a = append_assoc (bind_line (query', length es)) (flat_map item_line es) rest in
-    let same = bind_free query count query' (length es) (drop n (drop p s)) (flat_map item_line es ++ rest) r.good g.0 (sym r.begins ∙ (h ∙ a)) in
+    let a = append_assoc (rendered_bind (query', length es)) (flat_map rendered_item es) rest in
+    let same = bind_free query count query' (length es) (drop n (drop p s)) (flat_map rendered_item es ++ rest) r.good g.0 (sym r.begins ∙ (h ∙ a)) in
     f es rest (sym same.0) g.1 g.2 (sym (drop-drop n p s) ∙ same.1)
 call_short s p query count n r f execute rest g h = absurd (omega (arith, head_is _ _ _ _ (sym r.begins ∙ h)))
 call_short s p query count n r f end rest g h = absurd (omega (arith, head_is _ _ _ _ (sym r.begins ∙ h)))
@@ -90,18 +90,18 @@ end_read s p t o turn room =
     record { call = end; good = tt; begins = x.begins; size = omega arith; within = x.within; turn = turn; room = room }
 
 -- A bind with its values.
-pub bind_read : (s : List ℕ) (p query count n q : ℕ) (b : Bundle) (t : Turn) → Reads bind_line GoodHead (drop p s) (query, count) n → ValuesRead s (p + n) count q b → asked t.call ≡ run.bind query b.pairs → fresh_bytes t.text ≡ Some b.text → fresh_bytes t.given ≡ Some b.given → fresh_bytes t.room ≡ None → TurnRead s p q t
+pub bind_read : (s : List ℕ) (p query count n q : ℕ) (b : Bundle) (t : Turn) → Reads rendered_bind GoodHead (drop p s) (query, count) n → ValuesRead s (p + n) count q b → asked t.call ≡ run.bind query b.pairs → fresh_bytes t.text ≡ Some b.text → fresh_bytes t.given ≡ Some b.given → fresh_bytes t.room ≡ None → TurnRead s p q t
 bind_read s p query count n q b t r v asks text given room =
     let bl = v.block in
     let es = bl.items in
     let many = bl.many in
     let gives = v.gives in
-    let lines : bind_line (query, count) ≡ bind_line (query, length es) = ap (λ m. bind_line (query, m)) (sym many) in
+    let lines : rendered_bind (query, count) ≡ rendered_bind (query, length es) = ap (λ m. rendered_bind (query, m)) (sym many) in
     let rb = r.begins in
     let vb = bl.begins in
     let d = drop-drop n p s in
-    let a = append_assoc (bind_line (query, length es)) (flat_map item_line es) (drop q s) in
-    let la = length-append (bind_line (query, length es)) (flat_map item_line es) in
+    let a = append_assoc (rendered_bind (query, length es)) (flat_map rendered_item es) (drop q s) in
+    let la = length-append (rendered_bind (query, length es)) (flat_map rendered_item es) in
     let ll = ap length lines in
     let rs = r.size in
     let vs = bl.size in
@@ -109,7 +109,7 @@ bind_read s p query count n q b t r v asks text given room =
     record {
       call = bind query es;
       good = ((r.good.0, omega arith), bl.good, rw gives at v.roomy);
-      begins = rb ∙ (ap (λ l. l ++ drop n (drop p s)) lines ∙ (ap (λ l. bind_line (query, length es) ++ l) (d ∙ vb) ∙ sym a));
+      begins = rb ∙ (ap (λ l. l ++ drop n (drop p s)) lines ∙ (ap (λ l. rendered_bind (query, length es) ++ l) (d ∙ vb) ∙ sym a));
       size = omega arith;
       within = bl.within;
       turn = record { asks = rw gives at asks; text = rw gives at text; given = rw gives at given };

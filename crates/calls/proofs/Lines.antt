@@ -11,7 +11,7 @@ use Rattle.figures.proofs.Steps.{figure_free, piece_free, number_free}
 use Rattle.sheet.specs.Sheet.{piece_line, Numeric}
 use Rattle.sheet.specs.Lines.{Reads, Lacks, NoDouble}
 use Rattle.sheet.proofs.Parts.{flat_stop, flat_piece, head_is}
-use Rattle.calls.specs.Items.{Datum, null, int, long, double, text, bytes, Entry, text_letter, bytes_letter, letter_of, stop_of, behind_type, item_line, GoodDatum, GoodEntry, AskedBy, NoType, NoSmall}
+use Rattle.calls.specs.Items.{Datum, null, int, long, double, text, bytes, Entry, text_letter, bytes_letter, letter_of, stop_of, rendered_datum, rendered_item, GoodDatum, GoodEntry, AskedBy, NoType, NoSmall}
 use Rattle.calls.specs.declared.items.Ownership.{Ownership}
 use Rattle.calls.specs.declared.items.Ownership.TheVariants.{Borrowed, Owned}
 
@@ -46,7 +46,7 @@ small_other s z k p bad = λ y rest h e.
     bad (rw same.0 h)
 
 -- What a letter asks for.
-pub int_none : (s : List ℕ) (letter : ℕ) → letter ≡ 73 → NoSmall s → Lacks behind_type (AskedBy letter) s
+pub int_none : (s : List ℕ) (letter : ℕ) → letter ≡ 73 → NoSmall s → Lacks rendered_datum (AskedBy letter) s
 int_none s letter l f null rest g e = g
 int_none s letter l f (int z) rest g e = f z rest g.1 (e ∙ flat_stop (signed_decimal z) rest)
 int_none s letter l f (long z) rest g e = absurd (omega (arith, g.0))
@@ -56,7 +56,7 @@ int_none s letter l f (text Owned b) rest g e = absurd (omega (arith, g.0))
 int_none s letter l f (bytes Borrowed b) rest g e = absurd (omega (arith, g.0))
 int_none s letter l f (bytes Owned b) rest g e = absurd (omega (arith, g.0))
 
-pub long_none : (s : List ℕ) (letter : ℕ) → letter ≡ 76 → NoNumber 10 s → Lacks behind_type (AskedBy letter) s
+pub long_none : (s : List ℕ) (letter : ℕ) → letter ≡ 76 → NoNumber 10 s → Lacks rendered_datum (AskedBy letter) s
 long_none s letter l f null rest g e = g
 long_none s letter l f (int z) rest g e = absurd (omega (arith, g.0))
 long_none s letter l f (long z) rest g e = f z rest g.1 (e ∙ flat_stop (signed_decimal z) rest)
@@ -66,7 +66,7 @@ long_none s letter l f (text Owned b) rest g e = absurd (omega (arith, g.0))
 long_none s letter l f (bytes Borrowed b) rest g e = absurd (omega (arith, g.0))
 long_none s letter l f (bytes Owned b) rest g e = absurd (omega (arith, g.0))
 
-pub double_none : (s : List ℕ) (letter : ℕ) → letter ≡ 71 → NoDouble s → Lacks behind_type (AskedBy letter) s
+pub double_none : (s : List ℕ) (letter : ℕ) → letter ≡ 71 → NoDouble s → Lacks rendered_datum (AskedBy letter) s
 double_none s letter l f null rest g e = g
 double_none s letter l f (int z) rest g e = absurd (omega (arith, g.0))
 double_none s letter l f (long z) rest g e = absurd (omega (arith, g.0))
@@ -76,7 +76,7 @@ double_none s letter l f (text Owned b) rest g e = absurd (omega (arith, g.0))
 double_none s letter l f (bytes Borrowed b) rest g e = absurd (omega (arith, g.0))
 double_none s letter l f (bytes Owned b) rest g e = absurd (omega (arith, g.0))
 
-pub piece_none : (s : List ℕ) (letter : ℕ) → (letter ≡ 73 → ⊥) → (letter ≡ 76 → ⊥) → (letter ≡ 71 → ⊥) → NoPiece 0 65536 s → Lacks behind_type (AskedBy letter) s
+pub piece_none : (s : List ℕ) (letter : ℕ) → (letter ≡ 73 → ⊥) → (letter ≡ 76 → ⊥) → (letter ≡ 71 → ⊥) → NoPiece 0 65536 s → Lacks rendered_datum (AskedBy letter) s
 piece_none s letter i l g f null rest a e = a
 piece_none s letter i l g f (int z) rest a e = i (sym a.0)
 piece_none s letter i l g f (long z) rest a e = l (sym a.0)
@@ -92,17 +92,17 @@ record Told (s ds : List ℕ) (k : ℕ) : Type 0 where
 told : (s ds : List ℕ) (k : ℕ) → s ≡ ds ++ (10 ∷ drop k s) → k ≡ length ds + 1 → Told s ds k
 told s ds k b size = record { begins = b ∙ sym (flat_stop ds (drop k s)); size = simp length-append (omega arith) }
 
-pub int_reads : (s : List ℕ) (letter : ℕ) (z : ℤ) (k : ℕ) → letter ≡ 73 → Numbered 10 s z k → mag z < 2 ^ 31 → Reads behind_type (AskedBy letter) s (int z) k
+pub int_reads : (s : List ℕ) (letter : ℕ) (z : ℤ) (k : ℕ) → letter ≡ 73 → Numbered 10 s z k → mag z < 2 ^ 31 → Reads rendered_datum (AskedBy letter) s (int z) k
 int_reads s letter z k l p small =
     let x = told s (signed_decimal z) k p.begins p.long in
     record { good = (sym l, small); begins = x.begins; size = x.size; within = p.within }
 
-pub long_reads : (s : List ℕ) (letter : ℕ) (z : ℤ) (k : ℕ) → letter ≡ 76 → Numbered 10 s z k → Reads behind_type (AskedBy letter) s (long z) k
+pub long_reads : (s : List ℕ) (letter : ℕ) (z : ℤ) (k : ℕ) → letter ≡ 76 → Numbered 10 s z k → Reads rendered_datum (AskedBy letter) s (long z) k
 long_reads s letter z k l p =
     let x = told s (signed_decimal z) k p.begins p.long in
     record { good = (sym l, p.small); begins = x.begins; size = x.size; within = p.within }
 
-pub double_reads : (s : List ℕ) (letter bits k : ℕ) → letter ≡ 71 → Figured 10 18446744073709551615 s bits k → Numeric bits → Reads behind_type (AskedBy letter) s (double bits) k
+pub double_reads : (s : List ℕ) (letter bits k : ℕ) → letter ≡ 71 → Figured 10 18446744073709551615 s bits k → Numeric bits → Reads rendered_datum (AskedBy letter) s (double bits) k
 double_reads s letter bits k l p g =
     let x = told s (decimal bits) k p.begins p.long in
     let small = p.small in
@@ -127,12 +127,12 @@ cut s from len p =
     let high = p.high in
     record { high = omega arith; begins = cc; size = simp length-append (omega arith); within = omega arith }
 
-pub text_reads : (s : List ℕ) (letter : ℕ) (o : Ownership) (from len : ℕ) → letter ≡ text_letter o → Pieced 0 65536 s from len → Reads behind_type (AskedBy letter) s (text o (take len (drop from s))) (from + len + 1)
+pub text_reads : (s : List ℕ) (letter : ℕ) (o : Ownership) (from len : ℕ) → letter ≡ text_letter o → Pieced 0 65536 s from len → Reads rendered_datum (AskedBy letter) s (text o (take len (drop from s))) (from + len + 1)
 text_reads s letter o from len l p =
     let x = cut s from len p in
     record { good = (sym l, x.high); begins = x.begins; size = x.size; within = x.within }
 
-pub bytes_reads : (s : List ℕ) (letter : ℕ) (o : Ownership) (from len : ℕ) → letter ≡ bytes_letter o → Pieced 0 65536 s from len → Reads behind_type (AskedBy letter) s (bytes o (take len (drop from s))) (from + len + 1)
+pub bytes_reads : (s : List ℕ) (letter : ℕ) (o : Ownership) (from len : ℕ) → letter ≡ bytes_letter o → Pieced 0 65536 s from len → Reads rendered_datum (AskedBy letter) s (bytes o (take len (drop from s))) (from + len + 1)
 bytes_reads s letter o from len l p =
     let x = cut s from len p in
     record { good = (sym l, x.high); begins = x.begins; size = x.size; within = x.within }
@@ -185,38 +185,38 @@ null_stop (bytes Owned b) e = absurd (omega (arith, e))
 -- What a line says of the bytes that it begins.
 record Opened (s : List ℕ) (e : Entry) (rest : List ℕ) : Type 0 where
   letter : (x : ℕ) → s ≡ x ∷ (32 ∷ drop 2 s) → x ≡ letter_of e.datum
-  behind : drop 2 s ≡ decimal (type_number e.tpe) ++ (stop_of e.datum ∷ (behind_type e.datum ++ rest))
+  behind : drop 2 s ≡ decimal (type_number e.tpe) ++ (stop_of e.datum ∷ (rendered_datum e.datum ++ rest))
 
-opened : (s : List ℕ) (e : Entry) (rest : List ℕ) → s ≡ item_line e ++ rest → Opened s e rest
+opened : (s : List ℕ) (e : Entry) (rest : List ℕ) → s ≡ rendered_item e ++ rest → Opened s e rest
 opened s e rest h =
     record {
       letter = λ x o. head_is _ _ _ _ (sym o ∙ h);
-      behind = ap (drop 2) h ∙ flat_item (decimal (type_number e.tpe)) (behind_type e.datum) rest (stop_of e.datum);
+      behind = ap (drop 2) h ∙ flat_item (decimal (type_number e.tpe)) (rendered_datum e.datum) rest (stop_of e.datum);
     }
 
-pub null_none : (s : List ℕ) → s ≡ 78 ∷ (32 ∷ drop 2 s) → NoType 10 (drop 2 s) → Lacks item_line GoodEntry s
+pub null_none : (s : List ℕ) → s ≡ 78 ∷ (32 ∷ drop 2 s) → NoType 10 (drop 2 s) → Lacks rendered_item GoodEntry s
 null_none s o f = λ e rest g h.
     let x = opened s e rest h in
     let stop = null_stop e.datum (x.letter 78 o) in
-    f e.tpe (behind_type e.datum ++ rest) (rw stop at x.behind)
+    f e.tpe (rendered_datum e.datum ++ rest) (rw stop at x.behind)
 
-pub tpe_none : (s : List ℕ) (letter : ℕ) → s ≡ letter ∷ (32 ∷ drop 2 s) → (letter ≡ 78 → ⊥) → NoType 32 (drop 2 s) → Lacks item_line GoodEntry s
+pub tpe_none : (s : List ℕ) (letter : ℕ) → s ≡ letter ∷ (32 ∷ drop 2 s) → (letter ≡ 78 → ⊥) → NoType 32 (drop 2 s) → Lacks rendered_item GoodEntry s
 tpe_none s letter o n f = λ e rest g h.
     let x = opened s e rest h in
     let stop = (asked_by letter e.datum n (x.letter letter o) g).1 in
-    f e.tpe (behind_type e.datum ++ rest) (rw stop at x.behind)
+    f e.tpe (rendered_datum e.datum ++ rest) (rw stop at x.behind)
 
-pub behind_none : (s : List ℕ) (letter j : ℕ) (t : SqliteType) → s ≡ letter ∷ (32 ∷ drop 2 s) → (letter ≡ 78 → ⊥) → Figured 32 7 (drop 2 s) (type_number t) j → Lacks behind_type (AskedBy letter) (drop j (drop 2 s)) → Lacks item_line GoodEntry s
+pub behind_none : (s : List ℕ) (letter j : ℕ) (t : SqliteType) → s ≡ letter ∷ (32 ∷ drop 2 s) → (letter ≡ 78 → ⊥) → Figured 32 7 (drop 2 s) (type_number t) j → Lacks rendered_datum (AskedBy letter) (drop j (drop 2 s)) → Lacks rendered_item GoodEntry s
 behind_none s letter j t o n f lacks = λ e rest g h.
     let x = opened s e rest h in
     let a = asked_by letter e.datum n (x.letter letter o) g in
     let b = (type_low t).1 in
     let c = (type_low e.tpe).1 in
     let low = stop_below e.datum in
-    let same = figure_free (type_number t) (type_number e.tpe) 32 (stop_of e.datum) (drop j (drop 2 s)) (behind_type e.datum ++ rest) (omega arith) (omega arith) (omega arith) low (sym f.begins ∙ x.behind) in
+    let same = figure_free (type_number t) (type_number e.tpe) 32 (stop_of e.datum) (drop j (drop 2 s)) (rendered_datum e.datum ++ rest) (omega arith) (omega arith) (omega arith) low (sym f.begins ∙ x.behind) in
     lacks e.datum rest a.0 same.rests
 
-pub null_reads : (s : List ℕ) (t : SqliteType) (k : ℕ) → s ≡ 78 ∷ (32 ∷ drop 2 s) → Figured 10 7 (drop 2 s) (type_number t) k → Reads item_line GoodEntry s (record { tpe = t; datum = null }) (k + 2)
+pub null_reads : (s : List ℕ) (t : SqliteType) (k : ℕ) → s ≡ 78 ∷ (32 ∷ drop 2 s) → Figured 10 7 (drop 2 s) (type_number t) k → Reads rendered_item GoodEntry s (record { tpe = t; datum = null }) (k + 2)
 null_reads s t k o f =
     let b = f.begins in
     let d = drop-drop k 2 s in
@@ -228,7 +228,7 @@ null_reads s t k o f =
     let fw = f.within in
     record { good = tt; begins = cc; size = simp length-append (omega arith); within = omega arith }
 
-pub item_reads : (s : List ℕ) (letter j k : ℕ) (t : SqliteType) (d : Datum) → s ≡ letter ∷ (32 ∷ drop 2 s) → Figured 32 7 (drop 2 s) (type_number t) j → Reads behind_type (AskedBy letter) (drop j (drop 2 s)) d k → Reads item_line GoodEntry s (record { tpe = t; datum = d }) (j + k + 2)
+pub item_reads : (s : List ℕ) (letter j k : ℕ) (t : SqliteType) (d : Datum) → s ≡ letter ∷ (32 ∷ drop 2 s) → Figured 32 7 (drop 2 s) (type_number t) j → Reads rendered_datum (AskedBy letter) (drop j (drop 2 s)) d k → Reads rendered_item GoodEntry s (record { tpe = t; datum = d }) (j + k + 2)
 item_reads s letter j k t d o f r =
     let x = asked_is letter d r.good in
     let is = x.0 in
@@ -239,7 +239,7 @@ item_reads s letter j k t d o f r =
     let d2 = drop-drop k j (drop 2 s) in
     let d3 = drop-drop (j + k) 2 s in
     let a : 2 + (j + k) ≡ j + k + 2 = omega arith in
-    let e = flat_item (decimal (type_number t)) (behind_type d) (drop (j + k + 2) s) 32 in
+    let e = flat_item (decimal (type_number t)) (rendered_datum d) (drop (j + k + 2) s) 32 in
     let two = ap length o in
     let l = length-drop 2 s in
     let l2 = length-drop j (drop 2 s) in
@@ -283,7 +283,7 @@ bytes_letter_is Borrowed Owned e = absurd (omega (arith, e))
 bytes_letter_is Owned Borrowed e = absurd (omega (arith, e))
 bytes_letter_is Owned Owned e = refl
 
-datum_free : (d c : Datum) (r t : List ℕ) → letter_of d ≡ letter_of c → GoodDatum d → GoodDatum c → behind_type d ++ r ≡ behind_type c ++ t → (d ≡ c) × (r ≡ t)
+datum_free : (d c : Datum) (r t : List ℕ) → letter_of d ≡ letter_of c → GoodDatum d → GoodDatum c → rendered_datum d ++ r ≡ rendered_datum c ++ t → (d ≡ c) × (r ≡ t)
 datum_free null null r t e g h q = (refl, q)
 datum_free null (int y) r t e g h q = absurd (omega (arith, e))
 datum_free null (long y) r t e g h q = absurd (omega (arith, e))
@@ -338,14 +338,14 @@ type_back type.Long = refl
 entry_is : (a b : SqliteType) (d c : Datum) → a ≡ b → d ≡ c → ◌≡◌ {A = Entry} (record { tpe = a; datum = d }) (record { tpe = b; datum = c })
 entry_is a b d c e f = cc
 
-pub item_free : (e f : Entry) (r t : List ℕ) → GoodEntry e → GoodEntry f → item_line e ++ r ≡ item_line f ++ t → (e ≡ f) × (r ≡ t)
+pub item_free : (e f : Entry) (r t : List ℕ) → GoodEntry e → GoodEntry f → rendered_item e ++ r ≡ rendered_item f ++ t → (e ≡ f) × (r ≡ t)
 item_free e f r t g h q =
-    let x = opened (item_line f ++ t) e r (sym q) in
-    let y = opened (item_line f ++ t) f t refl in
+    let x = opened (rendered_item f ++ t) e r (sym q) in
+    let y = opened (rendered_item f ++ t) f t refl in
     let letters : letter_of e.datum ≡ letter_of f.datum = head_is _ _ _ _ q in
     let b = (type_low e.tpe).1 in
     let d = (type_low f.tpe).1 in
-    let same = figure_free (type_number e.tpe) (type_number f.tpe) (stop_of e.datum) (stop_of f.datum) (behind_type e.datum ++ r) (behind_type f.datum ++ t) (omega arith) (omega arith) (stop_below e.datum) (stop_below f.datum) (sym x.behind ∙ y.behind) in
+    let same = figure_free (type_number e.tpe) (type_number f.tpe) (stop_of e.datum) (stop_of f.datum) (rendered_datum e.datum ++ r) (rendered_datum f.datum ++ t) (omega arith) (omega arith) (stop_below e.datum) (stop_below f.datum) (sym x.behind ∙ y.behind) in
     let k = datum_free e.datum f.datum r t letters g h same.rests in
     let tpe : e.tpe ≡ f.tpe = sym (type_back e.tpe) ∙ (ap type_at same.figures ∙ type_back f.tpe) in
     (entry_is e.tpe f.tpe e.datum f.datum tpe k.0, k.1)

@@ -6,7 +6,7 @@ use Rattle.values.specs.declared.SqliteType.{SqliteType}
 use Rattle.binds.specs.declared.collector.Span.{Span}
 use Rattle.binds.specs.declared.collector.SqliteBindValue.{SqliteBindValue}
 use Rattle.sheet.specs.Lines.{Reads, Lacks}
-use Rattle.calls.specs.Items.{Datum, null, int, long, double, text, bytes, Entry, item_line, GoodEntry}
+use Rattle.calls.specs.Items.{Datum, null, int, long, double, text, bytes, Entry, rendered_item, GoodEntry}
 use Rattle.calls.specs.Binds.{Bundle, no_values, with_bytes, with_datum, next_span, with_pair, with_entry, with_entries, Roomy, GoodNext, Because, Kept, TakenIn, LineTaken, ValuesRead, NoLines}
 use Rattle.calls.specs.declared.items.Ownership.TheVariants.{Borrowed, Owned}
 use Rattle.calls.specs.declared.turns.CallFault.{CallFault}
@@ -30,14 +30,14 @@ kept_owned (Err Malformed) b after bs room k = λ h. let l = length-append b.giv
 kept_owned (Err Memory) b after bs room k = tt
 
 -- A line whose bytes are too many.
-pub line_full : (b : Bundle) (s : List ℕ) (e : Entry) (k : ℕ) → Reads item_line GoodEntry s e k → (Roomy (with_datum e.datum b) → ⊥) → Lacks item_line (GoodNext b) s
+pub line_full : (b : Bundle) (s : List ℕ) (e : Entry) (k : ℕ) → Reads rendered_item GoodEntry s e k → (Roomy (with_datum e.datum b) → ⊥) → Lacks rendered_item (GoodNext b) s
 unfolding with_entry
 line_full b s e k r full = λ f rest g q.
     let same = item_free e f (drop k s) rest r.good g.0 (sym r.begins ∙ q) in
     let room : Roomy (with_entry b e) = rw same.0 g.1 in
     full room
 
-pub line_none : (b : Bundle) (s : List ℕ) → Lacks item_line GoodEntry s → Lacks item_line (GoodNext b) s
+pub line_none : (b : Bundle) (s : List ℕ) → Lacks rendered_item GoodEntry s → Lacks rendered_item (GoodNext b) s
 line_none b s f = λ e rest g q. f e rest g.0 q
 
 pub because : {P Q : Type 0} (f : CallFault) → (P → Q) → Because P f → Because Q f
@@ -45,7 +45,7 @@ because Malformed g p = g p
 because Memory g p = tt
 
 -- A line taken in.
-pub line_taken : (b after middle : Bundle) (s : List ℕ) (e : Entry) (k : ℕ) (v : SqliteBindValue) → Reads item_line GoodEntry s e k → TakenIn b middle e.datum v → after ≡ with_pair (e.tpe, v) middle → LineTaken b after s k
+pub line_taken : (b after middle : Bundle) (s : List ℕ) (e : Entry) (k : ℕ) (v : SqliteBindValue) → Reads rendered_item GoodEntry s e k → TakenIn b middle e.datum v → after ≡ with_pair (e.tpe, v) middle → LineTaken b after s k
 unfolding with_entry
 line_taken b after middle s e k v r t is =
     record {
@@ -94,14 +94,14 @@ pub record Left (s : List ℕ) (q m : ℕ) (b : Bundle) (rest : List ℕ) : Type
   pub many : length items ≡ m
   pub good : AllByRecursion GoodEntry items
   pub roomy : Roomy (with_entries b items)
-  pub begins : drop q s ≡ flat_map item_line items ++ rest
+  pub begins : drop q s ≡ flat_map rendered_item items ++ rest
 
 -- So many lines were read, and the reader is at place q of the bytes t, which are still s.
 pub record Walked (s : List ℕ) (p n : ℕ) (t : List ℕ) (q : ℕ) (b : Bundle) : Type 0 where
   pub same : t ≡ s
   pub ahead : p ≤ q
   pub read : ValuesRead s p n q b
-  pub left : (m : ℕ) (es : List Entry) (rest : List ℕ) → length es ≡ n + m → AllByRecursion GoodEntry es → Roomy (with_entries no_values es) → drop p s ≡ flat_map item_line es ++ rest → Left s q m b rest
+  pub left : (m : ℕ) (es : List Entry) (rest : List ℕ) → length es ≡ n + m → AllByRecursion GoodEntry es → Roomy (with_entries no_values es) → drop p s ≡ flat_map rendered_item es ++ rest → Left s q m b rest
 
 pub walked_none : (s : List ℕ) (p : ℕ) (b : Bundle) → p ≤ length s → b ≡ no_values → Walked s p 0 s p b
 unfolding with_entries
@@ -113,12 +113,12 @@ walked_none s p b h e =
       left = λ m es rest many good roomy begins. record { items = es; many = omega arith; good = good; roomy = rw e roomy; begins = begins };
     }
 
-left_go : (s : List ℕ) (q k m : ℕ) (b : Bundle) (e : Entry) (rest : List ℕ) → Reads item_line (GoodNext b) (drop q s) e k → (es : List Entry) → length es ≡ 1 + m → AllByRecursion GoodEntry es → Roomy (with_entries b es) → drop q s ≡ flat_map item_line es ++ rest → Left s (q + k) m (with_entry b e) rest
+left_go : (s : List ℕ) (q k m : ℕ) (b : Bundle) (e : Entry) (rest : List ℕ) → Reads rendered_item (GoodNext b) (drop q s) e k → (es : List Entry) → length es ≡ 1 + m → AllByRecursion GoodEntry es → Roomy (with_entries b es) → drop q s ≡ flat_map rendered_item es ++ rest → Left s (q + k) m (with_entry b e) rest
 unfolding with_entries
 left_go s q k m b e rest r [] many good roomy begins = absurd (omega arith)
 left_go s q k m b e rest r (f ∷ es) many good roomy begins =
-    let a = append_assoc (item_line f) (flat_map item_line es) rest in
-    let same = item_free e f (drop k (drop q s)) (flat_map item_line es ++ rest) r.good.0 good.0 (sym r.begins ∙ (begins ∙ a)) in
+    let a = append_assoc (rendered_item f) (flat_map rendered_item es) rest in
+    let same = item_free e f (drop k (drop q s)) (flat_map rendered_item es ++ rest) r.good.0 good.0 (sym r.begins ∙ (begins ∙ a)) in
     let d = drop-drop k q s in
     record { items = es; many = omega arith; good = good.1; roomy = rw same.0 roomy; begins = sym d ∙ same.1 }
 
@@ -126,16 +126,16 @@ pub walked_more : (s : List ℕ) (p n : ℕ) (t : List ℕ) (q k : ℕ) (b after
 walked_more s p n t q k b after w x =
     let same = w.same in
     let e = x.entry in
-    let y : Reads item_line (GoodNext b) (drop q s) e k = subst (λ z. Reads item_line (GoodNext b) (drop q z) e k) same x.reads in
+    let y : Reads rendered_item (GoodNext b) (drop q s) e k = subst (λ z. Reads rendered_item (GoodNext b) (drop q z) e k) same x.reads in
     let v = w.read in
     let bl = v.block in
     let a = bl.begins in
     let d = y.begins in
-    let j = joined_push item_line bl.items e in
-    let c = append_assoc (flat_map item_line bl.items) (item_line e) (drop (q + k) s) in
+    let j = joined_push rendered_item bl.items e in
+    let c = append_assoc (flat_map rendered_item bl.items) (rendered_item e) (drop (q + k) s) in
     let dd = drop-drop k q s in
     let lp = length_push bl.items e in
-    let lj = ap length j ∙ length-append (flat_map item_line bl.items) (item_line e) in
+    let lj = ap length j ∙ length-append (flat_map rendered_item bl.items) (rendered_item e) in
     let ld = length-drop q s in
     let many = bl.many in
     let z1 = bl.size in
@@ -157,14 +157,14 @@ walked_more s p n t q k b after w x =
           rw is (left_go s q k m b e rest y l.items l.many l.good l.roomy l.begins);
     }
 
-stuck_go : (s : List ℕ) (q m : ℕ) (b : Bundle) (rest : List ℕ) → Lacks item_line (GoodNext b) (drop q s) → (es : List Entry) → length es ≡ 1 + m → AllByRecursion GoodEntry es → Roomy (with_entries b es) → drop q s ≡ flat_map item_line es ++ rest → ⊥
+stuck_go : (s : List ℕ) (q m : ℕ) (b : Bundle) (rest : List ℕ) → Lacks rendered_item (GoodNext b) (drop q s) → (es : List Entry) → length es ≡ 1 + m → AllByRecursion GoodEntry es → Roomy (with_entries b es) → drop q s ≡ flat_map rendered_item es ++ rest → ⊥
 unfolding with_entries
 stuck_go s q m b rest f [] many good roomy begins = omega arith
 stuck_go s q m b rest f (e ∷ es) many good roomy begins =
-    f e (flat_map item_line es ++ rest) (good.0, entries_roomy (with_entry b e) es roomy) (begins ∙ append_assoc (item_line e) (flat_map item_line es) rest)
+    f e (flat_map rendered_item es ++ rest) (good.0, entries_roomy (with_entry b e) es roomy) (begins ∙ append_assoc (rendered_item e) (flat_map rendered_item es) rest)
 
-pub walked_stuck : (s : List ℕ) (p i : ℕ) (t : List ℕ) (q n : ℕ) (b : Bundle) → Walked s p i t q b → i < n → Lacks item_line (GoodNext b) (drop q t) → NoLines s p n
+pub walked_stuck : (s : List ℕ) (p i : ℕ) (t : List ℕ) (q n : ℕ) (b : Bundle) → Walked s p i t q b → i < n → Lacks rendered_item (GoodNext b) (drop q t) → NoLines s p n
 walked_stuck s p i t q n b w h f = λ es rest many good roomy begins.
-    let g : Lacks item_line (GoodNext b) (drop q s) = subst (λ z. Lacks item_line (GoodNext b) (drop q z)) w.same f in
+    let g : Lacks rendered_item (GoodNext b) (drop q s) = subst (λ z. Lacks rendered_item (GoodNext b) (drop q z)) w.same f in
     let l = w.left (1 + (n - i - 1)) es rest (omega arith) good roomy begins in
     stuck_go s q (n - i - 1) b rest g l.items l.many l.good l.roomy l.begins

@@ -8,7 +8,7 @@ use Rattle.binds.specs.declared.collector.Span.{Span}
 use Rattle.binds.specs.declared.collector.SqliteBindValue.{SqliteBindValue}
 use Rattle.binds.specs.declared.collector.SqliteBindValue.TheVariants.{BorrowedString, String, BorrowedBinary, Binary, I32, I64, F64, Null}
 use Rattle.sheet.specs.Lines.{Reads, Block}
-use Rattle.calls.specs.Items.{Datum, null, int, long, double, text, bytes, Entry, item_line, GoodEntry}
+use Rattle.calls.specs.Items.{Datum, null, int, long, double, text, bytes, Entry, rendered_item, GoodEntry}
 use Rattle.calls.specs.declared.items.Ownership.{Ownership}
 use Rattle.calls.specs.declared.items.Ownership.TheVariants.{Borrowed, Owned}
 use Rattle.calls.specs.declared.turns.Values.{Values}
@@ -116,15 +116,15 @@ pub record TakenIn (before after : Bundle) (d : Datum) (v : SqliteBindValue) : T
 -- The value line in front of s, of k bytes, was taken in.
 pub record LineTaken (before after : Bundle) (s : List ℕ) (k : ℕ) : Type 0 where
   pub entry : Entry
-  pub reads : Reads item_line (GoodNext before) s entry k
+  pub reads : Reads rendered_item (GoodNext before) s entry k
   pub after_is : after ≡ with_entry before entry
 
 -- At place p of s stand n value lines, which give b, and the next line begins at q.
 pub record ValuesRead (s : List ℕ) (p n q : ℕ) (b : Bundle) : Type 0 where
-  pub block : Block item_line GoodEntry s p n q
+  pub block : Block rendered_item GoodEntry s p n q
   pub gives : b ≡ with_entries no_values block.items
   pub roomy : Roomy b
 
 -- At place p of s stand no n value lines whose bytes are not too many.
 abbrev pub NoLines : List ℕ → ℕ → ℕ → Type 0
-NoLines s p n = (es : List Entry) (rest : List ℕ) → length es ≡ n → AllByRecursion GoodEntry es → Roomy (with_entries no_values es) → drop p s ≢ flat_map item_line es ++ rest
+NoLines s p n = (es : List Entry) (rest : List ℕ) → length es ≡ n → AllByRecursion GoodEntry es → Roomy (with_entries no_values es) → drop p s ≢ flat_map rendered_item es ++ rest

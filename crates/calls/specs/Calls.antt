@@ -7,7 +7,7 @@ use Rattle.runs.specs.declared.turns.Lent.{Lent}
 use Rattle.runs.specs.declared.turns.Lent.TheVariants.{Fresh, Kept}
 use Rattle.runs.specs.declared.turns.Turn.{Turn}
 use Rattle.sheet.specs.Lines.{Lacks}
-use Rattle.calls.specs.Items.{Entry, item_line, GoodEntry}
+use Rattle.calls.specs.Items.{Entry, rendered_item, GoodEntry}
 use Rattle.calls.specs.Binds.{no_values, with_entries, Roomy}
 
 -- A call as its lines give it: a bind for a query with its values, an execute, or an end.
@@ -17,12 +17,12 @@ pub data Given : Type 0 where
   end : Given
 
 -- `b 9 1`: the query's number, and how many values follow.
-abbrev pub bind_line : ℕ × ℕ → List ℕ
-bind_line h = 98 ∷ (32 ∷ (decimal h.0 ++ (32 ∷ (decimal h.1 ++ (10 ∷ [])))))
+abbrev pub rendered_bind : ℕ × ℕ → List ℕ
+rendered_bind h = 98 ∷ (32 ∷ (decimal h.0 ++ (32 ∷ (decimal h.1 ++ (10 ∷ [])))))
 
 -- A bind's first line and its value lines, `x`, or `e`.
 abbrev pub call_lines : Given → List ℕ
-call_lines (bind query es) = bind_line (query, length es) ++ flat_map item_line es
+call_lines (bind query es) = rendered_bind (query, length es) ++ flat_map rendered_item es
 call_lines execute = 120 ∷ (10 ∷ [])
 call_lines end = 101 ∷ (10 ∷ [])
 

@@ -56,17 +56,17 @@ stop_of (text o bs) = 32
 stop_of (bytes o bs) = 32
 
 -- What stands behind that byte: nothing for null, else the value and the end of the line.
-abbrev pub behind_type : Datum → List ℕ
-behind_type null = []
-behind_type (int z) = signed_decimal z ++ (10 ∷ [])
-behind_type (long z) = signed_decimal z ++ (10 ∷ [])
-behind_type (double bits) = decimal bits ++ (10 ∷ [])
-behind_type (text o bs) = piece_line bs
-behind_type (bytes o bs) = piece_line bs
+abbrev pub rendered_datum : Datum → List ℕ
+rendered_datum null = []
+rendered_datum (int z) = signed_decimal z ++ (10 ∷ [])
+rendered_datum (long z) = signed_decimal z ++ (10 ∷ [])
+rendered_datum (double bits) = decimal bits ++ (10 ∷ [])
+rendered_datum (text o bs) = piece_line bs
+rendered_datum (bytes o bs) = piece_line bs
 
 -- `N 1`, `I 6 -5`, `L 7 -5`, `G 4 0`, `T 2 2 xy`, `t 2 2 xy`, `B 1 0 `, `c 1 0 `
-abbrev pub item_line : Entry → List ℕ
-item_line e = letter_of e.datum ∷ (32 ∷ (decimal (type_number e.tpe) ++ (stop_of e.datum ∷ behind_type e.datum)))
+abbrev pub rendered_item : Entry → List ℕ
+rendered_item e = letter_of e.datum ∷ (32 ∷ (decimal (type_number e.tpe) ++ (stop_of e.datum ∷ rendered_datum e.datum)))
 
 -- What it may hold: signed 32-bit and 64-bit numbers, 64-bit patterns that are no NaN, at most 65,536 bytes.
 abbrev pub GoodDatum : Datum → Type 0

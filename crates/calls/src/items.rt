@@ -5,7 +5,7 @@ ghost use Rattle.values.specs.Types.{type_number};
 ghost use Rattle.figures.specs.Figures.{stop_byte, Figured, Numbered};
 ghost use Rattle.sheet.specs.Sheet.{Numeric};
 ghost use Rattle.sheet.specs.Lines.{Reads, Lacks, NoDouble};
-ghost use Rattle.calls.specs.Items.{behind_type, item_line, GoodEntry, AskedBy, NoType, NoSmall, datum_of, entry_of, ContentWithin, moved_by};
+ghost use Rattle.calls.specs.Items.{rendered_datum, rendered_item, GoodEntry, AskedBy, NoType, NoSmall, datum_of, entry_of, ContentWithin, moved_by};
 
 use figures::{Part, Stop, figure, number, piece};
 use values::SqliteType;
@@ -82,7 +82,7 @@ fn double_bits(s: &[u8]) -> Option<(u64, usize)>
 
 // What the letter asks for, behind the declared type.
 fn behind_type(letter: u8, s: &[u8]) -> Option<(Content, usize)>
-    ensures { MatchOption result (Lacks behind_type (AskedBy letter) s.now) (λ p. Reads behind_type (AskedBy letter) s.now (datum_of s.now p.0) p.1 × ContentWithin (length s.now) p.0) }
+    ensures { MatchOption result (Lacks rendered_datum (AskedBy letter) s.now) (λ p. Reads rendered_datum (AskedBy letter) s.now (datum_of s.now p.0) p.1 × ContentWithin (length s.now) p.0) }
 {
     if letter == b'I' {
         let (n, k) = small(s)?;
@@ -109,7 +109,7 @@ fn behind_type(letter: u8, s: &[u8]) -> Option<(Content, usize)>
 
 // The value line in front: the item, its bytes placed in `s`, and how many bytes the line takes.
 pub(crate) fn item_line(s: &[u8]) -> Option<(Item, usize)>
-    ensures { MatchOption result (Lacks item_line GoodEntry s.now) (λ p. Reads item_line GoodEntry s.now (entry_of s.now p.0) p.1 × ContentWithin (length s.now) p.0.content) }
+    ensures { MatchOption result (Lacks rendered_item GoodEntry s.now) (λ p. Reads rendered_item GoodEntry s.now (entry_of s.now p.0) p.1 × ContentWithin (length s.now) p.0.content) }
 {
     if s.len() < 2 || s[1] != b' ' {
         return None;

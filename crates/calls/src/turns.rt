@@ -1,9 +1,9 @@
 // Call lines as turns: `b` bind with its value lines, `x` execute, `e` end.
 ghost use Rattle.std.specs.Prelude.{◌≡◌, ◌+◌, ◌<◌, ◌≤◌, true, ◌∷◌, length, drop, is_ok, IfOk, vec_len, Decides, MatchOption, MatchResult, slice_index};
 ghost use Rattle.sheet.specs.Lines.{Reads, Lacks, part_of};
-ghost use Rattle.calls.specs.Items.{item_line, datum_of, ContentWithin};
+ghost use Rattle.calls.specs.Items.{rendered_item, datum_of, ContentWithin};
 ghost use Rattle.calls.specs.Binds.{no_memory, no_values, with_bytes, next_span, with_datum, Roomy, GoodNext, bundle_of, Because, Kept, TakenIn, LineTaken, ValuesRead, NoLines};
-ghost use Rattle.calls.specs.Calls.{bind_line, call_lines, GoodHead, GoodCall, TurnRead, CallsRead};
+ghost use Rattle.calls.specs.Calls.{rendered_bind, call_lines, GoodHead, GoodCall, TurnRead, CallsRead};
 
 use crate::items::{Content, MOST_BYTES, Ownership, item_line};
 use binds::collector::{Span, SqliteBindValue};
@@ -134,7 +134,7 @@ impl Values {
         requires { Roomy (bundle_of self.old) }
         ensures { MatchResult result
             (λ n. LineTaken (bundle_of self.old) (bundle_of self.new) s.now n)
-            (Because (Lacks item_line (GoodNext (bundle_of self.old)) s.now)) }
+            (Because (Lacks rendered_item (GoodNext (bundle_of self.old)) s.now)) }
     {
         let Some((item, n)) = item_line(s) else {
             return Err(CallFault::Malformed);
@@ -165,7 +165,7 @@ const MOST_FIGURE: u64 = 4294967295;
 
 // The first line of a bind: the query's number, how many values follow, and how many bytes the line takes.
 fn bind_line(s: &[u8]) -> Option<(u32, u64, usize)>
-    ensures { MatchOption result (Lacks bind_line GoodHead s.now) (λ p. Reads bind_line GoodHead s.now (p.0, p.1) p.2) }
+    ensures { MatchOption result (Lacks rendered_bind GoodHead s.now) (λ p. Reads rendered_bind GoodHead s.now (p.0, p.1) p.2) }
 {
     if s.len() < 2 || s[0] != b'b' || s[1] != b' ' {
         return None;

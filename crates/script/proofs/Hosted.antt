@@ -17,7 +17,7 @@ use Rattle.host.specs.Sound.{Rowable, Sound}
 use Rattle.host.specs.declared.Slot.{Slot}
 use Rattle.sheet.proofs.Decoded.{sheet_at_lem, values_at_lem}
 use Rattle.sheet.proofs.Standing.{at_within}
-use Rattle.sheet.specs.Sheet.{Sheet, name_line, value_line, body_lines, together, GoodName, GoodValue, GoodOutcome, WellFormed}
+use Rattle.sheet.specs.Sheet.{Sheet, rendered_name, rendered_value, body_lines, together, GoodName, GoodValue, GoodOutcome, WellFormed}
 use Rattle.sheet.specs.Decode.{values_at, sheet_at}
 use Rattle.script.specs.Fine.{fine_bytes, fine_name, fine_names, fine_value, fine_values, fine_outcome, fine_outcomes, fine_sheet}
 use Rattle.sheet.specs.Places.{At, Accepted, Plays}
@@ -149,9 +149,9 @@ stands_at s c p os x =
     let r = front_rest (drop p s) body x.rest x.begins in
     x.begins ∙ ap (λ l. body ++ l) (sym r ∙ d)
 
-names_stand : (s : List ℕ) (p : ℕ) (ns : List (List ℕ)) (rest : List ℕ) → drop p s ≡ flat_map name_line ns ++ rest → NamesStand s p ns
+names_stand : (s : List ℕ) (p : ℕ) (ns : List (List ℕ)) (rest : List ℕ) → drop p s ≡ flat_map rendered_name ns ++ rest → NamesStand s p ns
 names_stand s p ns rest e =
-    let ls = flat_map name_line ns in
+    let ls = flat_map rendered_name ns in
     let d = drop-drop (length ls) p s in
     let r = front_rest (drop p s) ls rest e in
     e ∙ ap (λ l. ls ++ l) (sym r ∙ d)
@@ -210,7 +210,7 @@ went_row s c i v q (row vs ∷ os) g x =
     let e = x.2 in
     let f : x.1 ≡ q = cc in
     let k : x.0 ≡ v = cc in
-    let b : drop v s ≡ flat_map value_line vs ++ drop x.1 s = subst (λ z. drop z s ≡ flat_map value_line vs ++ drop x.1 s) k x.3 in
+    let b : drop v s ≡ flat_map rendered_value vs ++ drop x.1 s = subst (λ z. drop z s ≡ flat_map rendered_value vs ++ drop x.1 s) k x.3 in
     let w = ap (values_at (length vs)) b ∙ values_at_lem vs (drop x.1 s) g.0.1 in
     let w' : values_at c (drop v s) ≡ (vs, drop x.1 s) = subst (λ z. values_at z (drop v s) ≡ (vs, drop x.1 s)) g.0.0 w in
     record { some = omega arith; outcome = ap (λ (z : List Value × List ℕ). row z.0) w'; next = refl; at = subst (λ z. At s c z os) f x.4 }

@@ -8,7 +8,7 @@ use Rattle.host.specs.declared.Slot.{Slot}
 use Rattle.host.specs.declared.Slot.TheVariants as slot
 use Rattle.host.specs.declared.BindFault.{BindFault}
 use Rattle.host.specs.declared.BindFault.TheVariants.{Misuse, Range, TooBig}
-use Rattle.sheet.specs.Sheet.{Sheet, name_line, body_lines, together}
+use Rattle.sheet.specs.Sheet.{Sheet, rendered_name, body_lines, together}
 use Rattle.sheet.specs.Decode.{values_at}
 use Rattle.script.specs.declared.moves.Move.{Move}
 use Rattle.script.specs.declared.moves.Move.TheVariants.{Row, Done, Failed}
@@ -54,7 +54,7 @@ Stands s p os = drop p s ≡ together (body_lines os) ++ drop (p + length (toget
 
 -- The lines of these names stand at place p of s.
 abbrev pub NamesStand : List ℕ → ℕ → List (List ℕ) → Type 0
-NamesStand s p ns = drop p s ≡ flat_map name_line ns ++ drop (p + length (flat_map name_line ns)) s
+NamesStand s p ns = drop p s ≡ flat_map rendered_name ns ++ drop (p + length (flat_map rendered_name ns)) s
 
 -- The outcome that a move stands for, in the bytes that its row stands in.
 abbrev pub outcome_of : List ℕ → ℕ → Move → Outcome

@@ -12,8 +12,8 @@ use Rattle.figures.specs.Figures.{read_on}
 use Rattle.figures.proofs.Steps.{AllDigits, own}
 use Rattle.sheet.proofs.Parts.{flat_stop, flat_piece, flat_heading}
 use Rattle.sheet.proofs.Moves.{together_append, together_values}
-use Rattle.sheet.specs.Sheet.{Sheet, heading_of, heading_line, name_line, piece_line, param_line, value_line, outcome_lines, body_lines, render, together, GoodName, GoodParam, GoodValue, GoodOutcome, Holds}
-use Rattle.sheet.specs.Decode.{figure_at, number_at, cut, piece_at, value_at, values_at, names_at, params_at, outcomes_at, first_at, second_at, third_at, below_params, below_names, below_heading, sheet_at}
+use Rattle.sheet.specs.Sheet.{Sheet, heading_of, rendered_heading, rendered_name, piece_line, rendered_param, rendered_value, outcome_lines, body_lines, render, together, GoodName, GoodParam, GoodValue, GoodOutcome, Holds}
+use Rattle.sheet.specs.Decode.{figure_at, number_at, cut, piece_at, front_value, values_at, names_at, params_at, outcomes_at, first_at, second_at, third_at, below_params, below_names, below_heading, sheet_at}
 
 digits_at : (ds r : List ℕ) (n stop : ℕ) → AllDigits ds → stop < 48 → figure_at n (ds ++ (stop ∷ r)) ≡ (read_on n ds, r)
 digits_at [] r n stop d low = let e : leb 48 stop ≡ false = lt-leb 48 stop low in rw e refl
@@ -51,46 +51,46 @@ piece_at_lem b r h =
     let d : drop (length b + 1) (b ++ (10 ∷ r)) ≡ r = ap (drop (length b + 1)) (sym a) ∙ drop_at (b ++ (10 ∷ [])) r (length b + 1) l in
     ap cut f ∙ cc
 
-pub value_at_lem : (v : Value) (r : List ℕ) → GoodValue v → value_at (value_line v ++ r) ≡ (v, r)
+pub value_at_lem : (v : Value) (r : List ℕ) → GoodValue v → front_value (rendered_value v ++ r) ≡ (v, r)
 value_at_lem null r g = refl
 value_at_lem (long z) r g = ap (λ p. (long p.0, p.1)) (ap number_at (flat_stop (signed_decimal z) r) ∙ number_at_lem z r g)
 value_at_lem (double n) r g = ap (λ p. (double p.0, p.1)) (line_at n r g.0)
 value_at_lem (text b) r g = ap (λ p. (text p.0, p.1)) (piece_at_lem b r (omega arith))
 value_at_lem (blob b) r g = ap (λ p. (blob p.0, p.1)) (piece_at_lem b r (omega arith))
 
-pub values_at_lem : (vs : List Value) (r : List ℕ) → AllByRecursion GoodValue vs → values_at (length vs) (flat_map value_line vs ++ r) ≡ (vs, r)
+pub values_at_lem : (vs : List Value) (r : List ℕ) → AllByRecursion GoodValue vs → values_at (length vs) (flat_map rendered_value vs ++ r) ≡ (vs, r)
 unfolding values_at
 values_at_lem [] r g = refl
 values_at_lem (v ∷ vs) r g =
-    let a = append_assoc (value_line v) (flat_map value_line vs) r in
-    let h = ap value_at a ∙ value_at_lem v (flat_map value_line vs ++ r) g.0 in
+    let a = append_assoc (rendered_value v) (flat_map rendered_value vs) r in
+    let h = ap front_value a ∙ value_at_lem v (flat_map rendered_value vs ++ r) g.0 in
     let i = values_at_lem vs r g.1 in
     ap (λ p. (p.0 ∷ (values_at (length vs) p.1).0, (values_at (length vs) p.1).1)) h ∙ ap (λ p. (v ∷ p.0, p.1)) i
 
-names_from : (ns : List (List ℕ)) (r : List ℕ) → AllByRecursion GoodName ns → names_at (length ns) (flat_map name_line ns ++ r) ≡ (ns, r)
+names_from : (ns : List (List ℕ)) (r : List ℕ) → AllByRecursion GoodName ns → names_at (length ns) (flat_map rendered_name ns ++ r) ≡ (ns, r)
 unfolding names_at
 names_from [] r g = refl
 names_from (n ∷ ns) r g =
     let b = g.0.1 in
-    let a = append_assoc (name_line n) (flat_map name_line ns) r in
-    let h = ap (λ l. piece_at (drop 2 l)) a ∙ piece_at_lem n (flat_map name_line ns ++ r) (omega arith) in
+    let a = append_assoc (rendered_name n) (flat_map rendered_name ns) r in
+    let h = ap (λ l. piece_at (drop 2 l)) a ∙ piece_at_lem n (flat_map rendered_name ns ++ r) (omega arith) in
     let i = names_from ns r g.1 in
     ap (λ p. (p.0 ∷ (names_at (length ns) p.1).0, (names_at (length ns) p.1).1)) h ∙ ap (λ p. (n ∷ p.0, p.1)) i
 
-params_at_lem : (c : ℕ) (ps : List ℕ) (r : List ℕ) → c < 2 ^ 64 → AllByRecursion (GoodParam c) ps → params_at (length ps) (flat_map param_line ps ++ r) ≡ (ps, r)
+params_at_lem : (c : ℕ) (ps : List ℕ) (r : List ℕ) → c < 2 ^ 64 → AllByRecursion (GoodParam c) ps → params_at (length ps) (flat_map rendered_param ps ++ r) ≡ (ps, r)
 unfolding params_at
 params_at_lem c [] r w g = refl
 params_at_lem c (p ∷ ps) r w g =
     let b = g.0 in
-    let a = append_assoc (param_line p) (flat_map param_line ps) r in
-    let h = ap (λ l. figure_at 0 (drop 2 l)) a ∙ line_at p (flat_map param_line ps ++ r) (omega arith) in
+    let a = append_assoc (rendered_param p) (flat_map rendered_param ps) r in
+    let h = ap (λ l. figure_at 0 (drop 2 l)) a ∙ line_at p (flat_map rendered_param ps ++ r) (omega arith) in
     let i = params_at_lem c ps r w g.1 in
     ap (λ q. (q.0 ∷ (params_at (length ps) q.1).0, (params_at (length ps) q.1).1)) h ∙ ap (λ q. (p ∷ q.0, q.1)) i
 
-pub row_bytes : (vs : List Value) (os : List Outcome) → together (map value_line vs ++ flat_map outcome_lines os ++ ((69 ∷ (10 ∷ [])) ∷ [])) ≡ flat_map value_line vs ++ together (body_lines os)
+pub row_bytes : (vs : List Value) (os : List Outcome) → together (map rendered_value vs ++ flat_map outcome_lines os ++ ((69 ∷ (10 ∷ [])) ∷ [])) ≡ flat_map rendered_value vs ++ together (body_lines os)
 row_bytes vs os =
-    let a = ap together (append_assoc (map value_line vs) (flat_map outcome_lines os) ((69 ∷ (10 ∷ [])) ∷ [])) in
-    let b = together_append (map value_line vs) (body_lines os) in
+    let a = ap together (append_assoc (map rendered_value vs) (flat_map outcome_lines os) ((69 ∷ (10 ∷ [])) ∷ [])) in
+    let b = together_append (map rendered_value vs) (body_lines os) in
     let d = together_values vs in
     a ∙ (b ∙ ap (λ l. l ++ together (body_lines os)) d)
 
@@ -100,8 +100,8 @@ outcomes_from zero c os r g h = absurd (omega arith)
 outcomes_from (suc f) c [] r g h = refl
 outcomes_from (suc f) c (row vs ∷ os) r g h =
     let body = together (body_lines os) in
-    let b = append_assoc (flat_map value_line vs) body r in
-    let e = ap (values_at c) (ap (λ l. l ++ r) (row_bytes vs os) ∙ b) ∙ subst (λ n. values_at n (flat_map value_line vs ++ (body ++ r)) ≡ (vs, body ++ r)) g.0.0 (values_at_lem vs (body ++ r) g.0.1) in
+    let b = append_assoc (flat_map rendered_value vs) body r in
+    let e = ap (values_at c) (ap (λ l. l ++ r) (row_bytes vs os) ∙ b) ∙ subst (λ n. values_at n (flat_map rendered_value vs ++ (body ++ r)) ≡ (vs, body ++ r)) g.0.0 (values_at_lem vs (body ++ r) g.0.1) in
     ap (λ p. row p.0 ∷ outcomes_at f c p.1) e ∙ ap (λ l. row vs ∷ l) (outcomes_from f c os r g.1 (omega arith))
 outcomes_from (suc f) c (done ∷ os) r g h = ap (λ l. done ∷ l) (outcomes_from f c os r g.1 (omega arith))
 outcomes_from (suc f) c (failed k ∷ os) r g h =
@@ -112,13 +112,13 @@ outcomes_from (suc f) c (failed k ∷ os) r g h =
     ap (λ p. failed p.0 ∷ outcomes_at f c p.1) e ∙ ap (λ l. failed k ∷ l) (outcomes_from f c os r g.1 (omega arith))
 
 -- A sheet has more bytes than outcomes.
-pub together_names : (ns : List (List ℕ)) → together (map name_line ns) ≡ flat_map name_line ns
+pub together_names : (ns : List (List ℕ)) → together (map rendered_name ns) ≡ flat_map rendered_name ns
 together_names [] = refl
-together_names (n ∷ ns) = ap (λ l. name_line n ++ l) (together_names ns)
+together_names (n ∷ ns) = ap (λ l. rendered_name n ++ l) (together_names ns)
 
-pub together_params : (ps : List ℕ) → together (map param_line ps) ≡ flat_map param_line ps
+pub together_params : (ps : List ℕ) → together (map rendered_param ps) ≡ flat_map rendered_param ps
 together_params [] = refl
-together_params (p ∷ ps) = ap (λ l. param_line p ++ l) (together_params ps)
+together_params (p ∷ ps) = ap (λ l. rendered_param p ++ l) (together_params ps)
 
 outcome_long : (o : Outcome) → 0 < length (together (outcome_lines o))
 outcome_long (row vs) = omega arith
@@ -135,21 +135,21 @@ body_long (o ∷ os) =
     omega arith
 
 -- The bytes of a sheet, part by part.
-pub render_bytes : (x : Sheet) (r : List ℕ) → together (render x) ++ r ≡ heading_line (heading_of x) ++ (flat_map name_line x.names ++ (flat_map param_line x.params ++ (together (body_lines x.outcomes) ++ r)))
+pub render_bytes : (x : Sheet) (r : List ℕ) → together (render x) ++ r ≡ rendered_heading (heading_of x) ++ (flat_map rendered_name x.names ++ (flat_map rendered_param x.params ++ (together (body_lines x.outcomes) ++ r)))
 unfolding render
 render_bytes x r =
     let ns = x.names in
     let ps = x.params in
     let body = together (body_lines x.outcomes) in
-    let h = heading_line (heading_of x) in
-    let t1 = together_append (map name_line ns) (map param_line ps ++ body_lines x.outcomes) in
-    let t2 = together_append (map param_line ps) (body_lines x.outcomes) in
+    let h = rendered_heading (heading_of x) in
+    let t1 = together_append (map rendered_name ns) (map rendered_param ps ++ body_lines x.outcomes) in
+    let t2 = together_append (map rendered_param ps) (body_lines x.outcomes) in
     let tn = together_names ns in
     let tp = together_params ps in
-    let a1 = append_assoc h (flat_map name_line ns ++ (flat_map param_line ps ++ body)) r in
-    let a2 = append_assoc (flat_map name_line ns) (flat_map param_line ps ++ body) r in
-    let a3 = append_assoc (flat_map param_line ps) body r in
-    let all : together (map name_line ns ++ (map param_line ps ++ body_lines x.outcomes)) ≡ flat_map name_line ns ++ (flat_map param_line ps ++ body) = cc in
+    let a1 = append_assoc h (flat_map rendered_name ns ++ (flat_map rendered_param ps ++ body)) r in
+    let a2 = append_assoc (flat_map rendered_name ns) (flat_map rendered_param ps ++ body) r in
+    let a3 = append_assoc (flat_map rendered_param ps) body r in
+    let all : together (map rendered_name ns ++ (map rendered_param ps ++ body_lines x.outcomes)) ≡ flat_map rendered_name ns ++ (flat_map rendered_param ps ++ body) = cc in
     ap (λ l. (h ++ l) ++ r) all ∙ cc
 
 -- The bytes hold one sheet at most.
@@ -166,9 +166,9 @@ sheet_at_lem s x h =
     let h1 = h.good.heading.1 in
     let h2 = h.good.heading.2 in
     let t3 = body ++ r in
-    let t2 = flat_map param_line ps ++ t3 in
-    let t1 = flat_map name_line ns ++ t2 in
-    let e : s ≡ heading_line hd ++ t1 = h.begins ∙ render_bytes x r in
+    let t2 = flat_map rendered_param ps ++ t3 in
+    let t1 = flat_map rendered_name ns ++ t2 in
+    let e : s ≡ rendered_heading hd ++ t1 = h.begins ∙ render_bytes x r in
     let f = length s in
     let f1 = ap (figure_at 0) (e ∙ flat_heading hd t1) ∙ figure_at_lem (length ns) 32 (decimal (length ps) ++ (32 ∷ (decimal x.copy_limit ++ (10 ∷ t1)))) (omega arith) (omega arith) in
     let f2 = figure_at_lem (length ps) 32 (decimal x.copy_limit ++ (10 ∷ t1)) (omega arith) (omega arith) in
@@ -176,9 +176,9 @@ sheet_at_lem s x h =
     let first : first_at (figure_at 0 s) ≡ (hd, t1) = ap first_at f1 ∙ (ap (second_at (length ns)) f2 ∙ ap (third_at (length ns) (length ps)) f3) in
     let names = names_from ns t2 h.good.names in
     let params = params_at_lem (length ns) ps t3 (omega arith) h.good.params in
-    let ls = ap length e ∙ length-append (heading_line hd) t1 in
-    let l1 = length-append (flat_map name_line ns) t2 in
-    let l2 = length-append (flat_map param_line ps) t3 in
+    let ls = ap length e ∙ length-append (rendered_heading hd) t1 in
+    let l1 = length-append (flat_map rendered_name ns) t2 in
+    let l2 = length-append (flat_map rendered_param ps) t3 in
     let l3 = length-append body r in
     let lo = body_long os in
     let outcomes = outcomes_from f (length ns) os r h.good.outcomes (omega arith) in

@@ -5,24 +5,24 @@ use Rattle.std.proofs.lemmas.List.{drop-drop, length_push, length-map}
 use Rattle.figures.specs.declared.Part.{Part}
 use Rattle.host.specs.Outcome.{Outcome, row, done, failed}
 use Rattle.values.specs.Value.{Value, null, long, double, text, blob}
-use Rattle.sheet.specs.Sheet.{heading_line, param_line, value_line, outcome_lines, together, names_column, GoodParam, GoodValue, GoodOutcome, Suits}
-use Rattle.sheet.specs.Lines.{Reads, Lacks, Moved, Stuck, Block, Breaks, part_of, PartWithin, head_line, GoodHead, Outcomes, OutcomesBreak, Ended}
+use Rattle.sheet.specs.Sheet.{rendered_heading, rendered_param, rendered_value, outcome_lines, together, names_column, GoodParam, GoodValue, GoodOutcome, Suits}
+use Rattle.sheet.specs.Lines.{Reads, Lacks, Moved, Stuck, Block, Breaks, part_of, PartWithin, rendered_head, GoodHead, Outcomes, OutcomesBreak, Ended}
 use Rattle.sheet.specs.declared.lines.Heading.{Heading}
 use Rattle.sheet.specs.declared.lines.Head.{Head}
 use Rattle.sheet.specs.declared.lines.Head.TheVariants.{Row, Done, Failed, End}
 
 -- Every line has bytes.
-pub heading_long : (h : Heading) → 0 < length (heading_line h)
+pub heading_long : (h : Heading) → 0 < length (rendered_heading h)
 heading_long h = simp length-append (omega arith)
 
-pub value_long : (v : Value) → 0 < length (value_line v)
+pub value_long : (v : Value) → 0 < length (rendered_value v)
 value_long null = omega arith
 value_long (long z) = omega arith
 value_long (double n) = omega arith
 value_long (text b) = omega arith
 value_long (blob b) = omega arith
 
-pub head_long : (h : Head) → 0 < length (head_line h)
+pub head_long : (h : Head) → 0 < length (rendered_head h)
 head_long Row = omega arith
 head_long Done = omega arith
 head_long (Failed n) = omega arith
@@ -120,24 +120,24 @@ column_push (x ∷ xs) k = ap (λ b. not (eqb x 0) || b) (column_push xs k) ∙ 
 
 -- So many parameters were read, and `table` says whether some of them names a column.
 pub record Columns (columns : ℕ) (s : List ℕ) (p l n : ℕ) (t : List ℕ) (q m : ℕ) (table : Bool) : Type 0 where
-  pub walked : Walked param_line (GoodParam columns) s p l n t q m
+  pub walked : Walked rendered_param (GoodParam columns) s p l n t q m
   pub told : table ≡ names_column walked.block.items
 
 pub columns_none : (columns : ℕ) (s : List ℕ) (p l : ℕ) → p ≤ length s → Columns columns s p l 0 s p l false
 unfolding walked_none
-columns_none columns s p l h = record { walked = walked_none param_line (GoodParam columns) s p l h; told = refl }
+columns_none columns s p l h = record { walked = walked_none rendered_param (GoodParam columns) s p l h; told = refl }
 
-pub columns_more : (columns : ℕ) (s : List ℕ) (p l n : ℕ) (t : List ℕ) (q m : ℕ) (table : Bool) (k : ℕ) (u : List ℕ) (r i : ℕ) (next : Bool) → Columns columns s p l n t q m table → Moved param_line (GoodParam columns) t q m k r i → u ≡ t → next ≡ (table || not (eqb k 0)) → Columns columns s p l (n + 1) u r i next
+pub columns_more : (columns : ℕ) (s : List ℕ) (p l n : ℕ) (t : List ℕ) (q m : ℕ) (table : Bool) (k : ℕ) (u : List ℕ) (r i : ℕ) (next : Bool) → Columns columns s p l n t q m table → Moved rendered_param (GoodParam columns) t q m k r i → u ≡ t → next ≡ (table || not (eqb k 0)) → Columns columns s p l (n + 1) u r i next
 unfolding walked_more
 columns_more columns s p l n t q m table k u r i next w x e f =
     record {
-      walked = walked_more param_line (GoodParam columns) s p l n t q m k u r i w.walked x e;
+      walked = walked_more rendered_param (GoodParam columns) s p l n t q m k u r i w.walked x e;
       told = f ∙ (ap (λ b. b || not (eqb k 0)) w.told ∙ sym (column_push w.walked.block.items k));
     }
 
-pub columns_all : (columns : ℕ) (s : List ℕ) (p l k : ℕ) (t : List ℕ) (q m : ℕ) (table : Bool) (n : ℕ) → Columns columns s p l k t q m table → k ≡ n → (b : Block param_line (GoodParam columns) s p n q) × (table ≡ names_column b.items) × (m ≡ l + n)
+pub columns_all : (columns : ℕ) (s : List ℕ) (p l k : ℕ) (t : List ℕ) (q m : ℕ) (table : Bool) (n : ℕ) → Columns columns s p l k t q m table → k ≡ n → (b : Block rendered_param (GoodParam columns) s p n q) × (table ≡ names_column b.items) × (m ≡ l + n)
 columns_all columns s p l k t q m table n w e =
-    subst (λ z. (b : Block param_line (GoodParam columns) s p z q) × (table ≡ names_column b.items) × (m ≡ l + z)) e (w.walked.block, w.told, w.walked.line)
+    subst (λ z. (b : Block rendered_param (GoodParam columns) s p z q) × (table ≡ names_column b.items) × (m ≡ l + z)) e (w.walked.block, w.told, w.walked.line)
 
 -- Outcomes.
 pub together_append : (xs ys : List (List ℕ)) → together (xs ++ ys) ≡ together xs ++ together ys
@@ -177,46 +177,46 @@ more s columns table p l t q m o u r k g good suits e size within line same =
       same = same;
     }
 
-pub going_done : (s : List ℕ) (columns : ℕ) (table : Bool) (p l : ℕ) (t : List ℕ) (q m : ℕ) (u : List ℕ) (r k : ℕ) → Going s columns table p l t q m → Moved head_line (GoodHead table) t q m Done r k → u ≡ t → Going s columns table p l u r k
+pub going_done : (s : List ℕ) (columns : ℕ) (table : Bool) (p l : ℕ) (t : List ℕ) (q m : ℕ) (u : List ℕ) (r k : ℕ) → Going s columns table p l t q m → Moved rendered_head (GoodHead table) t q m Done r k → u ≡ t → Going s columns table p l u r k
 going_done s columns table p l t q m u r k g x e =
-    let y : Moved head_line (GoodHead table) s q m Done r k = subst (λ z. Moved head_line (GoodHead table) z q m Done r k) g.same x in
+    let y : Moved rendered_head (GoodHead table) s q m Done r k = subst (λ z. Moved rendered_head (GoodHead table) z q m Done r k) g.same x in
     let line = y.line in
     more s columns table p l t q m done u r k g tt y.good.0 y.begins y.size y.within (omega arith) (e ∙ g.same)
 
-pub going_failed : (s : List ℕ) (columns : ℕ) (table : Bool) (p l : ℕ) (t : List ℕ) (q m code : ℕ) (u : List ℕ) (r k : ℕ) → Going s columns table p l t q m → Moved head_line (GoodHead table) t q m (Failed code) r k → u ≡ t → Going s columns table p l u r k
+pub going_failed : (s : List ℕ) (columns : ℕ) (table : Bool) (p l : ℕ) (t : List ℕ) (q m code : ℕ) (u : List ℕ) (r k : ℕ) → Going s columns table p l t q m → Moved rendered_head (GoodHead table) t q m (Failed code) r k → u ≡ t → Going s columns table p l u r k
 going_failed s columns table p l t q m code u r k g x e =
-    let y : Moved head_line (GoodHead table) s q m (Failed code) r k = subst (λ z. Moved head_line (GoodHead table) z q m (Failed code) r k) g.same x in
+    let y : Moved rendered_head (GoodHead table) s q m (Failed code) r k = subst (λ z. Moved rendered_head (GoodHead table) z q m (Failed code) r k) g.same x in
     let line = y.line in
-    let a = append-nil (head_line (Failed code)) in
+    let a = append-nil (rendered_head (Failed code)) in
     let b = y.begins in
     let z = y.size in
     let la = ap length a in
     more s columns table p l t q m (failed code) u r k g y.good.1 y.good.0 (cc) (omega arith) y.within (omega arith) (e ∙ g.same)
 
-pub together_values : (vs : List Value) → together (map value_line vs) ≡ flat_map value_line vs
+pub together_values : (vs : List Value) → together (map rendered_value vs) ≡ flat_map rendered_value vs
 together_values [] = refl
-together_values (v ∷ vs) = ap (λ l. value_line v ++ l) (together_values vs)
+together_values (v ∷ vs) = ap (λ l. rendered_value v ++ l) (together_values vs)
 
-pub going_row : (s : List ℕ) (columns : ℕ) (table : Bool) (p l : ℕ) (t : List ℕ) (q m : ℕ) (t' : List ℕ) (q' m' : ℕ) (u : List ℕ) (r k : ℕ) → Going s columns table p l t q m → Moved head_line (GoodHead table) t q m Row q' m' → t' ≡ t → Block value_line GoodValue t' q' columns r → k ≡ m' + columns → u ≡ t' → Going s columns table p l u r k
+pub going_row : (s : List ℕ) (columns : ℕ) (table : Bool) (p l : ℕ) (t : List ℕ) (q m : ℕ) (t' : List ℕ) (q' m' : ℕ) (u : List ℕ) (r k : ℕ) → Going s columns table p l t q m → Moved rendered_head (GoodHead table) t q m Row q' m' → t' ≡ t → Block rendered_value GoodValue t' q' columns r → k ≡ m' + columns → u ≡ t' → Going s columns table p l u r k
 going_row s columns table p l t q m t' q' m' u r k g x e b line f =
-    let y : Moved head_line (GoodHead table) s q m Row q' m' = subst (λ z. Moved head_line (GoodHead table) z q m Row q' m') g.same x in
-    let b' : Block value_line GoodValue s q' columns r = subst (λ z. Block value_line GoodValue z q' columns r) (e ∙ g.same) b in
+    let y : Moved rendered_head (GoodHead table) s q m Row q' m' = subst (λ z. Moved rendered_head (GoodHead table) z q m Row q' m') g.same x in
+    let b' : Block rendered_value GoodValue s q' columns r = subst (λ z. Block rendered_value GoodValue z q' columns r) (e ∙ g.same) b in
     let vs = b'.items in
     let tv = together_values vs in
     let yb = y.begins in
     let bb = b'.begins in
     let lt = ap length tv in
-    let lm = length-map vs value_line in
+    let lm = length-map vs rendered_value in
     let i = y.line in
     let z1 = y.size in
     let z2 = b'.size in
     let many = b'.many in
-    let n : drop q s ≡ 82 ∷ (10 ∷ (together (map value_line vs) ++ drop r s)) = cc in
+    let n : drop q s ≡ 82 ∷ (10 ∷ (together (map rendered_value vs) ++ drop r s)) = cc in
     more s columns table p l t q m (row vs) u r k g (b'.many, b'.good) tt n (omega arith) b'.within (omega arith) (f ∙ (e ∙ g.same))
 
-pub going_ends : (s : List ℕ) (columns : ℕ) (table : Bool) (p l : ℕ) (t : List ℕ) (q m : ℕ) (r k : ℕ) → Going s columns table p l t q m → Moved head_line (GoodHead table) t q m End r k → Ended s columns table p r
+pub going_ends : (s : List ℕ) (columns : ℕ) (table : Bool) (p l : ℕ) (t : List ℕ) (q m : ℕ) (r k : ℕ) → Going s columns table p l t q m → Moved rendered_head (GoodHead table) t q m End r k → Ended s columns table p r
 going_ends s columns table p l t q m r k g x =
-    let y : Moved head_line (GoodHead table) s q m End r k = subst (λ z. Moved head_line (GoodHead table) z q m End r k) g.same x in
+    let y : Moved rendered_head (GoodHead table) s q m End r k = subst (λ z. Moved rendered_head (GoodHead table) z q m End r k) g.same x in
     let o = g.read in
     let ls = flat_map outcome_lines o.items in
     let ta = together_append ls ((69 ∷ (10 ∷ [])) ∷ []) in
@@ -228,14 +228,14 @@ going_ends s columns table p l t q m r k g x =
     let z2 = y.size in
     record { items = o.items; good = o.good; suits = o.suits; begins = cc; size = omega arith; within = y.within }
 
-pub going_stuck : (s : List ℕ) (columns : ℕ) (table : Bool) (p l : ℕ) (t : List ℕ) (q m bad : ℕ) → Going s columns table p l t q m → Stuck head_line (GoodHead table) t q m bad → OutcomesBreak s columns table p l bad
+pub going_stuck : (s : List ℕ) (columns : ℕ) (table : Bool) (p l : ℕ) (t : List ℕ) (q m bad : ℕ) → Going s columns table p l t q m → Stuck rendered_head (GoodHead table) t q m bad → OutcomesBreak s columns table p l bad
 going_stuck s columns table p l t q m bad g x =
-    let y : Stuck head_line (GoodHead table) s q m bad = subst (λ z. Stuck head_line (GoodHead table) z q m bad) g.same x in
+    let y : Stuck rendered_head (GoodHead table) s q m bad = subst (λ z. Stuck rendered_head (GoodHead table) z q m bad) g.same x in
     record { next = q; front = g.read; stuck = inl (record { line = y.line ∙ g.line; lacks = y.lacks }) }
 
-pub going_short : (s : List ℕ) (columns : ℕ) (table : Bool) (p l : ℕ) (t : List ℕ) (q m : ℕ) (t' : List ℕ) (q' m' bad : ℕ) → Going s columns table p l t q m → Moved head_line (GoodHead table) t q m Row q' m' → t' ≡ t → Breaks value_line GoodValue t' q' m' columns bad → OutcomesBreak s columns table p l bad
+pub going_short : (s : List ℕ) (columns : ℕ) (table : Bool) (p l : ℕ) (t : List ℕ) (q m : ℕ) (t' : List ℕ) (q' m' bad : ℕ) → Going s columns table p l t q m → Moved rendered_head (GoodHead table) t q m Row q' m' → t' ≡ t → Breaks rendered_value GoodValue t' q' m' columns bad → OutcomesBreak s columns table p l bad
 going_short s columns table p l t q m t' q' m' bad g x e b =
-    let y : Moved head_line (GoodHead table) s q m Row q' m' = subst (λ z. Moved head_line (GoodHead table) z q m Row q' m') g.same x in
+    let y : Moved rendered_head (GoodHead table) s q m Row q' m' = subst (λ z. Moved rendered_head (GoodHead table) z q m Row q' m') g.same x in
     let n : m' ≡ l + length (flat_map outcome_lines g.read.items) + 1 = y.line ∙ ap (λ z. z + 1) g.line in
-    let b' : Breaks value_line GoodValue s q' (l + length (flat_map outcome_lines g.read.items) + 1) columns bad = subst (λ z. Breaks value_line GoodValue s q' z columns bad) n (subst (λ z. Breaks value_line GoodValue z q' m' columns bad) (e ∙ g.same) b) in
+    let b' : Breaks rendered_value GoodValue s q' (l + length (flat_map outcome_lines g.read.items) + 1) columns bad = subst (λ z. Breaks rendered_value GoodValue s q' z columns bad) n (subst (λ z. Breaks rendered_value GoodValue z q' m' columns bad) (e ∙ g.same) b) in
     record { next = q; front = g.read; stuck = inr (q', y.begins, b') }

@@ -8,8 +8,8 @@ use Rattle.values.specs.Value.{Value, null, long, double, text, blob}
 use Rattle.host.specs.Outcome.{Outcome, row, done, failed}
 use Rattle.figures.proofs.Steps.{figure_free, piece_free, number_free}
 use Rattle.sheet.proofs.Parts.{flat_stop, flat_piece, head_is}
-use Rattle.sheet.specs.Sheet.{name_line, piece_line, param_line, value_line, GoodName, GoodParam, GoodValue, GoodOutcome, names_column, Suits}
-use Rattle.sheet.specs.Lines.{head_line, PlainHead, GoodHead}
+use Rattle.sheet.specs.Sheet.{rendered_name, piece_line, rendered_param, rendered_value, GoodName, GoodParam, GoodValue, GoodOutcome, names_column, Suits}
+use Rattle.sheet.specs.Lines.{rendered_head, PlainHead, GoodHead}
 use Rattle.sheet.specs.declared.lines.Head.{Head}
 use Rattle.sheet.specs.declared.lines.Head.TheVariants.{Row, Done, Failed, End}
 
@@ -21,10 +21,10 @@ pub data Line : Type 0 where
   head : Head → Line
 
 abbrev pub written : Line → List ℕ
-written (name b) = name_line b
-written (param k) = param_line k
-written (value v) = value_line v
-written (head h) = head_line h
+written (name b) = rendered_name b
+written (param k) = rendered_param k
+written (value v) = rendered_value v
+written (head h) = rendered_head h
 
 -- How many names, parameters and values of a row have still to come, and whether the sheet is a table so far.
 pub record Left : Type 0 where
@@ -72,13 +72,13 @@ figures m n r t hm hn e =
     let k = figure_free m n 10 10 r t hm hn (omega arith) (omega arith) (sym (flat_stop (decimal m) r) ∙ (e ∙ flat_stop (decimal n) t)) in
     (k.figures, k.rests)
 
-pub name_free : (b d : List ℕ) (r t : List ℕ) → GoodName b → GoodName d → name_line b ++ r ≡ name_line d ++ t → (b ≡ d) × (r ≡ t)
+pub name_free : (b d : List ℕ) (r t : List ℕ) → GoodName b → GoodName d → rendered_name b ++ r ≡ rendered_name d ++ t → (b ≡ d) × (r ≡ t)
 name_free b d r t f g e =
     let a = f.1 in
     let h = g.1 in
     pieces b d r t (omega arith) (omega arith) (two_less _ _ _ _ _ _ e)
 
-pub value_free : (x y : Value) (r t : List ℕ) → GoodValue x → GoodValue y → value_line x ++ r ≡ value_line y ++ t → (x ≡ y) × (r ≡ t)
+pub value_free : (x y : Value) (r t : List ℕ) → GoodValue x → GoodValue y → rendered_value x ++ r ≡ rendered_value y ++ t → (x ≡ y) × (r ≡ t)
 value_free null null r t f g e = (refl, two_less _ _ _ _ _ _ e)
 value_free null (long z) r t f g e = absurd (omega (arith, head_is _ _ _ _ e))
 value_free null (double n) r t f g e = absurd (omega (arith, head_is _ _ _ _ e))
@@ -106,7 +106,7 @@ value_free (blob b) (double n) r t f g e = absurd (omega (arith, head_is _ _ _ _
 value_free (blob b) (text d) r t f g e = absurd (omega (arith, head_is _ _ _ _ e))
 value_free (blob b) (blob d) r t f g e = let n = pieces b d r t (omega arith) (omega arith) (two_less _ _ _ _ _ _ e) in (ap blob n.0, n.1)
 
-pub head_free : (x y : Head) (r t : List ℕ) → PlainHead x → PlainHead y → head_line x ++ r ≡ head_line y ++ t → (x ≡ y) × (r ≡ t)
+pub head_free : (x y : Head) (r t : List ℕ) → PlainHead x → PlainHead y → rendered_head x ++ r ≡ rendered_head y ++ t → (x ≡ y) × (r ≡ t)
 head_free Row Row r t f g e = (refl, two_less _ _ _ _ _ _ e)
 head_free Row Done r t f g e = absurd (omega (arith, head_is _ _ _ _ e))
 head_free Row (Failed n) r t f g e = absurd (omega (arith, head_is _ _ _ _ e))

@@ -8,22 +8,22 @@ use Rattle.host.specs.Outcome.{Outcome, row, done, failed}
 use Rattle.figures.proofs.Steps.{figure_free}
 use Rattle.sheet.proofs.Parts.{flat_heading}
 use Rattle.sheet.proofs.Runs.{Line, name, param, value, head, written, Left, left, Want, more, nothing, Fits, Runs, runs_take, follow, heads, tail_lines, tail_runs, content}
-use Rattle.sheet.specs.Sheet.{Sheet, heading_of, heading_line, name_line, param_line, value_line, outcome_lines, body_lines, render, together, GoodHeading, GoodParam, GoodOutcome, WellFormed, RefusedAt}
+use Rattle.sheet.specs.Sheet.{Sheet, heading_of, rendered_heading, rendered_name, rendered_param, rendered_value, outcome_lines, body_lines, render, together, GoodHeading, GoodParam, GoodOutcome, WellFormed, RefusedAt}
 use Rattle.sheet.specs.Lines.{Lacks}
 use Rattle.sheet.specs.declared.lines.Heading.{Heading}
 use Rattle.sheet.specs.declared.lines.Head.TheVariants.{End}
 
-written_names : (ns : List (List ℕ)) → map name_line ns ≡ map written (map name ns)
+written_names : (ns : List (List ℕ)) → map rendered_name ns ≡ map written (map name ns)
 written_names [] = refl
-written_names (n ∷ ns) = ap (λ l. name_line n ∷ l) (written_names ns)
+written_names (n ∷ ns) = ap (λ l. rendered_name n ∷ l) (written_names ns)
 
-written_params : (ps : List ℕ) → map param_line ps ≡ map written (map param ps)
+written_params : (ps : List ℕ) → map rendered_param ps ≡ map written (map param ps)
 written_params [] = refl
-written_params (p ∷ ps) = ap (λ l. param_line p ∷ l) (written_params ps)
+written_params (p ∷ ps) = ap (λ l. rendered_param p ∷ l) (written_params ps)
 
-written_values : (vs : List Value) → map value_line vs ≡ map written (map value vs)
+written_values : (vs : List Value) → map rendered_value vs ≡ map written (map value vs)
 written_values [] = refl
-written_values (v ∷ vs) = ap (λ l. value_line v ∷ l) (written_values vs)
+written_values (v ∷ vs) = ap (λ l. rendered_value v ∷ l) (written_values vs)
 
 written_outcome : (o : Outcome) → outcome_lines o ≡ map written (heads o)
 written_outcome (row vs) = ap (λ l. (82 ∷ (10 ∷ [])) ∷ l) (written_values vs)
@@ -44,7 +44,7 @@ written_body os =
     let m = map-append written (flat_map heads os) (head End ∷ []) in
     cc
 
-written_sheet : (s : Sheet) → render s ≡ heading_line (heading_of s) ∷ map written (tail_lines s.names s.params [] s.outcomes)
+written_sheet : (s : Sheet) → render s ≡ rendered_heading (heading_of s) ∷ map written (tail_lines s.names s.params [] s.outcomes)
 unfolding render
 written_sheet s =
     let a = written_names s.names in
@@ -52,7 +52,7 @@ written_sheet s =
     let d = written_params s.params in
     let m = map-append written (map name s.names) (map param s.params ++ tail_lines [] [] [] s.outcomes) in
     let n = map-append written (map param s.params) (tail_lines [] [] [] s.outcomes) in
-    ap (λ l. heading_line (heading_of s) ∷ l) (cc)
+    ap (λ l. rendered_heading (heading_of s) ∷ l) (cc)
 
 pub together_map : (xs : List Line) → together (map written xs) ≡ flat_map written xs
 together_map [] = refl
@@ -69,7 +69,7 @@ heading_same : (a b c d e f : ℕ) → a ≡ d → b ≡ e → c ≡ f → headi
 heading_same a b c d e f x y z = cc
 
 -- A heading is read in one way.
-heading_free : (h k : Heading) (r t : List ℕ) → GoodHeading h → GoodHeading k → heading_line h ++ r ≡ heading_line k ++ t → (h ≡ k) × (r ≡ t)
+heading_free : (h k : Heading) (r t : List ℕ) → GoodHeading h → GoodHeading k → rendered_heading h ++ r ≡ rendered_heading k ++ t → (h ≡ k) × (r ≡ t)
 heading_free h k r t f g e =
     let e' = sym (flat_heading h r) ∙ (e ∙ flat_heading k t) in
     let f0 = f.0 in
@@ -84,19 +84,19 @@ heading_free h k r t f g e =
     (heading_same h.columns h.parameters h.copy_limit k.columns k.parameters k.copy_limit x.figures y.figures z.figures, z.rests)
 
 -- The first lines of a sheet.
-front_lines : (s : Sheet) (n : ℕ) → together (take (suc n) (render s)) ≡ heading_line (heading_of s) ++ flat_map written (take n (tail_lines s.names s.params [] s.outcomes))
+front_lines : (s : Sheet) (n : ℕ) → together (take (suc n) (render s)) ≡ rendered_heading (heading_of s) ++ flat_map written (take n (tail_lines s.names s.params [] s.outcomes))
 front_lines s n =
     let t = tail_lines s.names s.params [] s.outcomes in
     let a = ap (λ l. together (take (suc n) l)) (written_sheet s) in
     let b = ap together (take-map written n t) in
     let m = together_map (take n t) in
-    a ∙ ap (λ l. heading_line (heading_of s) ++ l) (b ∙ m)
+    a ∙ ap (λ l. rendered_heading (heading_of s) ++ l) (b ∙ m)
 
 -- Refused: the lines so far are the front of some sheet, and no next line is.
 empty_sheet : Sheet
 empty_sheet = record { names = []; params = []; copy_limit = 0; outcomes = [] }
 
-pub refused_first : (s : List ℕ) → Lacks heading_line GoodHeading s → RefusedAt s 1
+pub refused_first : (s : List ℕ) → Lacks rendered_heading GoodHeading s → RefusedAt s 1
 unfolding empty_sheet
 refused_first s no-heading =
     record {
@@ -105,7 +105,7 @@ refused_first s no-heading =
       bad = λ b.
           let x = b.sheet in
           let f = front_lines x 0 in
-          let a = append_assoc (heading_line (heading_of x)) [] b.rest in
+          let a = append_assoc (rendered_heading (heading_of x)) [] b.rest in
           no-heading (heading_of x) b.rest b.good.heading (b.begins ∙ (ap (λ l. l ++ b.rest) f ∙ a));
     }
 
@@ -155,7 +155,7 @@ fronted h xs l good runs =
 sheet_runs : (s : Sheet) → WellFormed s → Runs (length s.names) (more (begin (heading_of s))) (tail_lines s.names s.params [] s.outcomes) nothing
 sheet_runs s g = tail_runs (length s.names) s.names s.params s.outcomes g.names g.params g.outcomes g.rows
 
-pub refused : (h : Heading) (s r : List ℕ) (xs : List Line) (l : Left) → GoodHeading h → Runs h.columns (more (begin h)) xs (more l) → s ≡ heading_line h ++ (flat_map written xs ++ r) → Lacks written (Fits h.columns l) r → RefusedAt s (length xs + 2)
+pub refused : (h : Heading) (s r : List ℕ) (xs : List Line) (l : Left) → GoodHeading h → Runs h.columns (more (begin h)) xs (more l) → s ≡ rendered_heading h ++ (flat_map written xs ++ r) → Lacks written (Fits h.columns l) r → RefusedAt s (length xs + 2)
 refused h s r xs l good runs e lacks =
     let k = fronted h xs l good runs in
     let n = length xs in
@@ -165,8 +165,8 @@ refused h s r xs l good runs e lacks =
     let up : n + 2 - 1 ≡ suc n = omega arith in
     let f = front_lines k.sheet n in
     let t : take n (tail_lines k.sheet.names k.sheet.params [] k.sheet.outcomes) ≡ xs = ap (take n) k.lines ∙ take_at xs k.rest n refl in
-    let a = append_assoc (heading_line h) (flat_map written xs) r in
-    let b : s ≡ together (take (suc n) (render k.sheet)) ++ r = e ∙ (sym a ∙ ap (λ l. l ++ r) (ap (λ z. heading_line z ++ flat_map written xs) (sym k.is) ∙ (ap (λ l. heading_line (heading_of k.sheet) ++ flat_map written l) (sym t) ∙ sym f))) in
+    let a = append_assoc (rendered_heading h) (flat_map written xs) r in
+    let b : s ≡ together (take (suc n) (render k.sheet)) ++ r = e ∙ (sym a ∙ ap (λ l. l ++ r) (ap (λ z. rendered_heading z ++ flat_map written xs) (sym k.is) ∙ (ap (λ l. rendered_heading (heading_of k.sheet) ++ flat_map written l) (sym t) ∙ sym f))) in
     record {
       some = omega arith;
       before = rw up (record { sheet = k.sheet; good = k.good; rest = r; begins = b });
@@ -176,7 +176,7 @@ refused h s r xs l good runs e lacks =
           let p : length xs + 2 ≡ suc (suc n) = omega arith in
           let y : s ≡ together (take (suc (suc n)) (render x)) ++ w.rest = rw p at w.begins in
           let fx = front_lines x (suc n) in
-          let ax = append_assoc (heading_line (heading_of x)) (flat_map written (take (suc n) t)) w.rest in
+          let ax = append_assoc (rendered_heading (heading_of x)) (flat_map written (take (suc n) t)) w.rest in
           let hf = heading_free h (heading_of x) (flat_map written xs ++ r) (flat_map written (take (suc n) t) ++ w.rest) good w.good.heading (sym e ∙ (y ∙ (ap (λ l. l ++ w.rest) fx ∙ ax))) in
           let full : Runs c (more (begin h)) t nothing = subst (λ (i : Heading). Runs i.columns (more (begin i)) t nothing) (sym hf.0) (sheet_runs x w.good) in
           ⊎_elim

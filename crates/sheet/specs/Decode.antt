@@ -24,9 +24,9 @@ abbrev pub piece_at : List ℕ → List ℕ × List ℕ
 piece_at s = cut (figure_at 0 s)
 
 -- A value line, by its letter.
-abbrev pub value_at : List ℕ → Value × List ℕ
-value_at [] = (null, [])
-value_at (c ∷ cs) =
+abbrev pub front_value : List ℕ → Value × List ℕ
+front_value [] = (null, [])
+front_value (c ∷ cs) =
     cond (c == 78) (null, drop 1 cs)
     (cond (c == 76) (long (number_at (drop 1 cs)).0, (number_at (drop 1 cs)).1)
     (cond (c == 71) (double (figure_at 0 (drop 1 cs)).0, (figure_at 0 (drop 1 cs)).1)
@@ -36,7 +36,7 @@ value_at (c ∷ cs) =
 -- So many value lines.
 unfoldable pub values_at : ℕ → List ℕ → List Value × List ℕ
 values_at zero s = ([], s)
-values_at (suc n) s = ((value_at s).0 ∷ (values_at n (value_at s).1).0, (values_at n (value_at s).1).1)
+values_at (suc n) s = ((front_value s).0 ∷ (values_at n (front_value s).1).0, (values_at n (front_value s).1).1)
 
 -- So many lines of columns.
 unfoldable pub names_at : ℕ → List ℕ → List (List ℕ) × List ℕ

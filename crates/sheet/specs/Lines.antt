@@ -4,7 +4,7 @@ use Rattle.std.specs.List.{flat_map, AllByRecursion}
 use Rattle.values.specs.Value.{Value, null, long, double, text, blob}
 use Rattle.figures.specs.declared.Part.{Part}
 use Rattle.host.specs.Outcome.{Outcome}
-use Rattle.sheet.specs.Sheet.{done_line, failed_line, row_line, end_line, value_line, outcome_lines, body_lines, together, GoodValue, GoodCode, GoodOutcome, Suits, Numeric}
+use Rattle.sheet.specs.Sheet.{done_line, failed_line, row_line, end_line, rendered_value, outcome_lines, body_lines, together, GoodValue, GoodCode, GoodOutcome, Suits, Numeric}
 use Rattle.sheet.specs.declared.lines.Cell.{Cell}
 use Rattle.sheet.specs.declared.lines.Cell.TheVariants.{Null, Long, Double, Text, Blob}
 use Rattle.sheet.specs.declared.lines.Head.{Head}
@@ -76,11 +76,11 @@ CellWithin s (Text part) = PartWithin s part
 CellWithin s (Blob part) = PartWithin s part
 
 -- The first line of an outcome, or the last line of a sheet.
-abbrev pub head_line : Head → List ℕ
-head_line Row = row_line
-head_line Done = done_line
-head_line (Failed code) = failed_line code
-head_line End = end_line
+abbrev pub rendered_head : Head → List ℕ
+rendered_head Row = row_line
+rendered_head Done = done_line
+rendered_head (Failed code) = failed_line code
+rendered_head End = end_line
 
 -- A failure has a good code.
 abbrev pub PlainHead : Head → Type 0
@@ -122,8 +122,8 @@ pub record OutcomesBreak (s : List ℕ) (columns : ℕ) (table : Bool) (p l bad 
   pub next : ℕ
   pub front : Outcomes s columns table p next
   pub stuck :
-      Stuck head_line (GoodHead table) s next (l + length (flat_map outcome_lines front.items)) bad
-      ⊎ ((first : ℕ) × (drop next s ≡ row_line ++ drop first s) × Breaks value_line GoodValue s first (l + length (flat_map outcome_lines front.items) + 1) columns bad)
+      Stuck rendered_head (GoodHead table) s next (l + length (flat_map outcome_lines front.items)) bad
+      ⊎ ((first : ℕ) × (drop next s ≡ row_line ++ drop first s) × Breaks rendered_value GoodValue s first (l + length (flat_map outcome_lines front.items) + 1) columns bad)
 
 -- At place p of s stand outcomes and then the last line, which ends at q.
 pub record Ended (s : List ℕ) (columns : ℕ) (table : Bool) (p q : ℕ) : Type 0 where

@@ -3,7 +3,7 @@ use Rattle.std.specs.Prelude.{◌≡◌, ℕ, ◌<◌, ◌≤◌, Bool, List, []
 use Rattle.std.specs.Borrow.{Bor}
 use Rattle.std.specs.List.{flat_map, AllByRecursion}
 use Rattle.host.specs.Outcome.{Outcome, row, done, failed}
-use Rattle.sheet.specs.Sheet.{Sheet, name_line, value_line, body_lines, render, together, GoodOutcome, names_column, Holds}
+use Rattle.sheet.specs.Sheet.{Sheet, rendered_name, rendered_value, body_lines, render, together, GoodOutcome, names_column, Holds}
 use Rattle.sheet.specs.declared.play.Played.{Played}
 use Rattle.sheet.specs.declared.play.Played.TheVariants.{Row, Done, Failed, End}
 
@@ -22,7 +22,7 @@ pub record Accepted (s : List ℕ) (columns parameters copies names outcomes end
   pub parameters_is : parameters ≡ length sheet.params
   pub copies_is : copies ≡ sheet.copy_limit
   pub table_is : table ≡ names_column sheet.params
-  pub names_from : (rest : List ℕ) × (drop names s ≡ flat_map name_line sheet.names ++ rest)
+  pub names_from : (rest : List ℕ) × (drop names s ≡ flat_map rendered_name sheet.names ++ rest)
   pub names_within : names ≤ length s
   pub outcomes_from : At s columns outcomes sheet.outcomes
   pub outcomes_within : outcomes ≤ length s
@@ -36,6 +36,6 @@ ByName r names i = MatchOption r (length names ≤ i) (λ name. (i < length name
 -- What playing the next outcome answers, where the outcomes os stand: the place of the next one, and of a row also the place of its first value.
 abbrev pub Plays : List ℕ → ℕ → List Outcome → Played → Type 0
 Plays s columns [] r = r ≡ End
-Plays s columns (row vs ∷ os) r = (v : ℕ) × (q : ℕ) × (r ≡ Row v q) × (drop v s ≡ flat_map value_line vs ++ drop q s) × At s columns q os
+Plays s columns (row vs ∷ os) r = (v : ℕ) × (q : ℕ) × (r ≡ Row v q) × (drop v s ≡ flat_map rendered_value vs ++ drop q s) × At s columns q os
 Plays s columns (done ∷ os) r = (q : ℕ) × (r ≡ Done q) × At s columns q os
 Plays s columns (failed code ∷ os) r = (q : ℕ) × (r ≡ Failed code q) × At s columns q os

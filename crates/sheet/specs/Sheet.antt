@@ -22,28 +22,28 @@ heading_of s = record { columns = length s.names; parameters = length s.params; 
 -- How it is written: each line with the byte 10 that ends it.
 
 -- `1 1 4`
-abbrev pub heading_line : Heading → List ℕ
-heading_line h = decimal h.columns ++ (32 ∷ (decimal h.parameters ++ (32 ∷ (decimal h.copy_limit ++ (10 ∷ [])))))
+abbrev pub rendered_heading : Heading → List ℕ
+rendered_heading h = decimal h.columns ++ (32 ∷ (decimal h.parameters ++ (32 ∷ (decimal h.copy_limit ++ (10 ∷ [])))))
 
 -- A length, a space, so many bytes and the end of the line.
 abbrev pub piece_line : List ℕ → List ℕ
 piece_line bs = decimal (length bs) ++ (32 ∷ (bs ++ (10 ∷ [])))
 
 -- `C 2 id`
-abbrev pub name_line : List ℕ → List ℕ
-name_line name = 67 ∷ (32 ∷ piece_line name)
+abbrev pub rendered_name : List ℕ → List ℕ
+rendered_name name = 67 ∷ (32 ∷ piece_line name)
 
 -- `P 1`
-abbrev pub param_line : ℕ → List ℕ
-param_line column = 80 ∷ (32 ∷ (decimal column ++ (10 ∷ [])))
+abbrev pub rendered_param : ℕ → List ℕ
+rendered_param column = 80 ∷ (32 ∷ (decimal column ++ (10 ∷ [])))
 
 -- `N`, `L -5`, `G 4607182418800017408`, `T 2 ab`, `B 0 `
-abbrev pub value_line : Value → List ℕ
-value_line null = 78 ∷ (10 ∷ [])
-value_line (long z) = 76 ∷ (32 ∷ (signed_decimal z ++ (10 ∷ [])))
-value_line (double bits) = 71 ∷ (32 ∷ (decimal bits ++ (10 ∷ [])))
-value_line (text bs) = 84 ∷ (32 ∷ piece_line bs)
-value_line (blob bs) = 66 ∷ (32 ∷ piece_line bs)
+abbrev pub rendered_value : Value → List ℕ
+rendered_value null = 78 ∷ (10 ∷ [])
+rendered_value (long z) = 76 ∷ (32 ∷ (signed_decimal z ++ (10 ∷ [])))
+rendered_value (double bits) = 71 ∷ (32 ∷ (decimal bits ++ (10 ∷ [])))
+rendered_value (text bs) = 84 ∷ (32 ∷ piece_line bs)
+rendered_value (blob bs) = 66 ∷ (32 ∷ piece_line bs)
 
 -- `R`, before the values of a row
 abbrev pub row_line : List ℕ
@@ -63,7 +63,7 @@ end_line = 69 ∷ (10 ∷ [])
 
 -- The lines of an outcome: a row's values come after its first line, one to a line.
 abbrev pub outcome_lines : Outcome → List (List ℕ)
-outcome_lines (row vs) = row_line ∷ map value_line vs
+outcome_lines (row vs) = row_line ∷ map rendered_value vs
 outcome_lines done = done_line ∷ []
 outcome_lines (failed code) = failed_line code ∷ []
 
@@ -73,7 +73,7 @@ body_lines os = flat_map outcome_lines os ++ (end_line ∷ [])
 
 -- The lines of a sheet.
 unfoldable pub render : Sheet → List (List ℕ)
-render s = heading_line (heading_of s) ∷ (map name_line s.names ++ (map param_line s.params ++ body_lines s.outcomes))
+render s = rendered_heading (heading_of s) ∷ (map rendered_name s.names ++ (map rendered_param s.params ++ body_lines s.outcomes))
 
 -- The bytes of lines.
 abbrev pub together : List (List ℕ) → List ℕ

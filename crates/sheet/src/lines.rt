@@ -2,9 +2,9 @@
 // and says how many bytes it takes, or that no such line stands there.
 ghost use Rattle.std.specs.Prelude.{◌≡◌, ℕ, ◌+◌, ◌-◌, ◌*◌, ◌%◌, ◌^◌, ◌<◌, ◌≤◌, List, [], ◌∷◌, ◌++◌, length, drop, Decides, MatchOption, slice_index};
 ghost use Rattle.std.specs.Int.{IsInRange};
-ghost use Rattle.sheet.specs.Sheet.{heading_line, name_line, param_line, value_line, GoodHeading, GoodName, GoodParam, Numeric, GoodValue, GoodCode};
+ghost use Rattle.sheet.specs.Sheet.{rendered_heading, rendered_name, rendered_param, rendered_value, GoodHeading, GoodName, GoodParam, Numeric, GoodValue, GoodCode};
 ghost use Rattle.figures.specs.Figures.{Figured, NoFigure, Pieced, NoPiece};
-ghost use Rattle.sheet.specs.Lines.{Reads, Lacks, part_of, PartWithin, cell_of, CellWithin, head_line, PlainHead, SuitsHead, GoodHead, NoDouble, NoCode};
+ghost use Rattle.sheet.specs.Lines.{Reads, Lacks, part_of, PartWithin, cell_of, CellWithin, rendered_head, PlainHead, SuitsHead, GoodHead, NoDouble, NoCode};
 
 use figures::{Part, Stop, figure, number, piece};
 
@@ -101,7 +101,7 @@ fn copy_count(s: &[u8]) -> Option<(u64, usize)>
 
 // The first line.
 pub(crate) fn heading_line(s: &[u8]) -> Option<(Heading, usize)>
-    ensures { MatchOption result (Lacks heading_line GoodHeading s.now) (λ p. Reads heading_line GoodHeading s.now p.0 p.1) }
+    ensures { MatchOption result (Lacks rendered_heading GoodHeading s.now) (λ p. Reads rendered_heading GoodHeading s.now p.0 p.1) }
 {
     let (columns, i) = column_count(s)?;
     let (parameters, j) = parameter_count(&s[i..])?;
@@ -125,7 +125,7 @@ fn name_piece(s: &[u8]) -> Option<Part>
 
 // The line of a column: where its name stands.
 pub(crate) fn name_line(s: &[u8]) -> Option<(Part, usize)>
-    ensures { MatchOption result (Lacks name_line GoodName s.now) (λ p. Reads name_line GoodName s.now (part_of s.now p.0) p.1 × PartWithin s.now p.0) }
+    ensures { MatchOption result (Lacks rendered_name GoodName s.now) (λ p. Reads rendered_name GoodName s.now (part_of s.now p.0) p.1 × PartWithin s.now p.0) }
 {
     if !opens(s, b'C', b' ') {
         return None;
@@ -153,7 +153,7 @@ fn column_figure(s: &[u8], columns: u64) -> Option<(u64, usize)>
 
 // The line of a parameter: its column, from 1, or 0.
 pub(crate) fn param_line(s: &[u8], columns: u64) -> Option<(u64, usize)>
-    ensures { MatchOption result (Lacks param_line (GoodParam columns) s.now) (λ p. Reads param_line (GoodParam columns) s.now p.0 p.1) }
+    ensures { MatchOption result (Lacks rendered_param (GoodParam columns) s.now) (λ p. Reads rendered_param (GoodParam columns) s.now p.0 p.1) }
 {
     if !opens(s, b'P', b' ') {
         return None;
@@ -189,7 +189,7 @@ fn bytes_piece(s: &[u8]) -> Option<Part>
 
 // The line of a value.
 pub(crate) fn value_line(s: &[u8]) -> Option<(Cell, usize)>
-    ensures { MatchOption result (Lacks value_line GoodValue s.now) (λ p. Reads value_line GoodValue s.now (cell_of s.now p.0) p.1 × CellWithin s.now p.0) }
+    ensures { MatchOption result (Lacks rendered_value GoodValue s.now) (λ p. Reads rendered_value GoodValue s.now (cell_of s.now p.0) p.1 × CellWithin s.now p.0) }
 {
     if opens(s, b'N', b'\n') {
         return Some((Cell::Null, 2));
@@ -245,7 +245,7 @@ fn failure_code(s: &[u8]) -> Option<(u64, usize)>
 
 // The first line of an outcome, or the last line of a sheet.
 pub(crate) fn head_line(s: &[u8]) -> Option<(Head, usize)>
-    ensures { MatchOption result (Lacks head_line PlainHead s.now) (λ p. Reads head_line PlainHead s.now p.0 p.1) }
+    ensures { MatchOption result (Lacks rendered_head PlainHead s.now) (λ p. Reads rendered_head PlainHead s.now p.0 p.1) }
 {
     if opens(s, b'R', b'\n') {
         return Some((Head::Row, 2));
@@ -275,7 +275,7 @@ fn suits(head: Head, table: bool) -> bool
 
 // The same in a sheet that is a table or is none.
 pub(crate) fn outcome_line(s: &[u8], table: bool) -> Option<(Head, usize)>
-    ensures { MatchOption result (Lacks head_line (GoodHead table) s.now) (λ p. Reads head_line (GoodHead table) s.now p.0 p.1) }
+    ensures { MatchOption result (Lacks rendered_head (GoodHead table) s.now) (λ p. Reads rendered_head (GoodHead table) s.now p.0 p.1) }
 {
     let (head, n) = head_line(s)?;
     if !suits(head, table) {

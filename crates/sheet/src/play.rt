@@ -3,7 +3,7 @@ ghost use Rattle.std.specs.Prelude.{◌≡◌, ℕ, ◌<◌, List, [], ◌++◌,
 ghost use Rattle.std.specs.List.{flat_map, AllByRecursion};
 ghost use Rattle.values.specs.Value.{Value, null};
 ghost use Rattle.host.specs.Outcome.{Outcome};
-ghost use Rattle.sheet.specs.Sheet.{name_line, value_line, GoodName, GoodValue};
+ghost use Rattle.sheet.specs.Sheet.{rendered_name, rendered_value, GoodName, GoodValue};
 ghost use Rattle.sheet.specs.Lines.{cell_of, CellWithin};
 ghost use Rattle.sheet.specs.Places.{At, Plays};
 
@@ -41,7 +41,7 @@ pub fn next_outcome(bytes: &[u8], columns: u64, place: usize) -> Played
 
 // Value `i`, counted from 0, of the row whose values begin at `place`.
 pub fn value_at(bytes: &[u8], place: usize, i: u64) -> Option<Cell>
-    ensures { (vs : List Value) (rest : List ℕ) → i < length vs → AllByRecursion GoodValue vs → drop place bytes.now ≡ flat_map value_line vs ++ rest → MatchOption result ⊥ (λ v. (cell_of bytes.now v ≡ slice_index_or vs i null) × CellWithin bytes.now v) }
+    ensures { (vs : List Value) (rest : List ℕ) → i < length vs → AllByRecursion GoodValue vs → drop place bytes.now ≡ flat_map rendered_value vs ++ rest → MatchOption result ⊥ (λ v. (cell_of bytes.now v ≡ slice_index_or vs i null) × CellWithin bytes.now v) }
 {
     let mut reader = SheetReader::at(bytes, place);
     let Ok(_) = reader.row(i) else {
@@ -55,7 +55,7 @@ pub fn value_at(bytes: &[u8], place: usize, i: u64) -> Option<Cell>
 
 // Name `i`, counted from 0, of the columns whose lines begin at `place`.
 pub fn name_at<'a>(bytes: &'a [u8], place: usize, i: u64) -> Option<&'a [u8]>
-    ensures { (ns : List (List ℕ)) (rest : List ℕ) → i < length ns → AllByRecursion GoodName ns → drop place bytes.now ≡ flat_map name_line ns ++ rest → MatchOption result ⊥ (λ n. n.now ≡ slice_index_or ns i []) }
+    ensures { (ns : List (List ℕ)) (rest : List ℕ) → i < length ns → AllByRecursion GoodName ns → drop place bytes.now ≡ flat_map rendered_name ns ++ rest → MatchOption result ⊥ (λ n. n.now ≡ slice_index_or ns i []) }
 {
     let mut reader = SheetReader::at(bytes, place);
     let Ok(()) = reader.names(i) else {

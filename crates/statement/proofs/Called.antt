@@ -8,7 +8,7 @@ use Rattle.host.specs.declared.StepFault.{StepFault}
 use Rattle.statement.specs.declared.stmt.Executed.{Executed}
 use Rattle.binds.specs.declared.refusal.Refusal.{Refusal}
 use Rattle.binds.specs.declared.refusal.Refusal.TheVariants.{WrongState, RowHeld, Length, TooManyValues, Outside, StepsSpent}
-use Rattle.binds.specs.Pairs.{Pair, all_inside, room_bytes}
+use Rattle.binds.specs.Pairs.{Pair, all_inside, total_room_bytes}
 use Rattle.binds.specs.Leases.{zeroed}
 use Rattle.statement.specs.State.{State, is_current, set_up_host, set_up}
 use Rattle.binds.specs.Cleared.{nulled, count_up}
@@ -70,7 +70,7 @@ may_facts s ps txt given room o a e =
 pub bind_refused : (s : State) (query : ℕ) (ps : List Pair) (txt given room : List ℕ) (o : Result (Unit {0}) Refusal) (r : Refusal) → o ≡ may_bind_answer s ps txt given (length room) → o ≡ Err r → (◌≡◌ {A = Result ℕ Refusal} (Err r) (bind_says s ps txt given room)) × (s ≡ bind_goes s query ps txt given room) × (room ≡ bind_leaves s ps txt given room)
 unfolding may_bind_answer bind_says bind_goes bind_leaves
 bind_refused s query ps txt given room o r a e =
-    let f = first_some (may_bind_tests s ps txt given (length room)) ((ltb (length room) (room_bytes ps), room_short) ∷ []) r (test_err (first_of (may_bind_tests s ps txt given (length room))) r (sym e ∙ a)) in
+    let f = first_some (may_bind_tests s ps txt given (length room)) ((ltb (length room) (total_room_bytes ps), room_short) ∷ []) r (test_err (first_of (may_bind_tests s ps txt given (length room))) r (sym e ∙ a)) in
     (ap (λ z. says_by z ps (tried_of s ps)) (sym f), ap (λ z. bound_if (says_by z ps (tried_of s ps)) (taken_by z s ps (tried_of s ps)) query (record { text = length txt; room = length room })) (sym f), ap (λ z. leaves_by z ps (tried_of s ps) given room) (sym f))
 
 -- bind once its first tests have passed
@@ -82,7 +82,7 @@ pub record Passed (s : State) (query : ℕ) (ps : List Pair) (txt given room : L
 pub bind_passed : (s : State) (query : ℕ) (ps : List Pair) (txt given room : List ℕ) (o : Result (Unit {0}) Refusal) {u : Unit {0}} → o ≡ may_bind_answer s ps txt given (length room) → o ≡ Ok u → Passed s query ps txt given room
 unfolding may_bind_answer bind_says bind_goes bind_leaves take_says take_goes take_leaves
 bind_passed s query ps txt given room o a e =
-    let f = first_none (may_bind_tests s ps txt given (length room)) ((ltb (length room) (room_bytes ps), room_short) ∷ []) (test_ok (first_of (may_bind_tests s ps txt given (length room))) (sym e ∙ a)) in
+    let f = first_none (may_bind_tests s ps txt given (length room)) ((ltb (length room) (total_room_bytes ps), room_short) ∷ []) (test_ok (first_of (may_bind_tests s ps txt given (length room))) (sym e ∙ a)) in
     record {
       says = ap (λ z. says_by z ps (tried_of s ps)) (sym f);
       goes = ap (λ z. bound_if (says_by z ps (tried_of s ps)) (taken_by z s ps (tried_of s ps)) query (record { text = length txt; room = length room })) (sym f);

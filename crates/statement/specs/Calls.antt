@@ -9,7 +9,7 @@ use Rattle.statement.specs.declared.stmt.Lengths.{Lengths}
 use Rattle.statement.specs.declared.stmt.Executed.{Executed}
 use Rattle.binds.specs.declared.refusal.Refusal.{Refusal}
 use Rattle.binds.specs.declared.refusal.Refusal.TheVariants.{WrongState, Length, RowHeld, TooManyValues, Outside, RoomShort, StepFailed, StepsSpent}
-use Rattle.binds.specs.Pairs.{Pair, all_inside, owned_count, room_bytes, leases_from, byte_slots, written_room}
+use Rattle.binds.specs.Pairs.{Pair, all_inside, owned_count, total_room_bytes, leases_from, byte_slots, written_room}
 use Rattle.binds.specs.Leases.{zeroed}
 use Rattle.statement.specs.State.{State, is_current, with_host}
 use Rattle.binds.specs.Cleared.{cleared}
@@ -41,7 +41,7 @@ may_bind_answer s ps txt given room = test_answer (first_of (may_bind_tests s ps
 
 -- All tests before any value is bound: the owned values must fit the room, too.
 abbrev pub bind_tests : State → List Pair → List ℕ → List ℕ → ℕ → List (Bool × Refusal)
-bind_tests s ps txt given room = may_bind_tests s ps txt given room ++ ((nat_lt room (room_bytes ps), RoomShort) ∷ [])
+bind_tests s ps txt given room = may_bind_tests s ps txt given room ++ ((nat_lt room (total_room_bytes ps), RoomShort) ∷ [])
 
 -- Once the tests have passed, how far the values came decides.
 abbrev pub why_says : List Pair → ℕ → Option Unbindable → Result ℕ Refusal
@@ -109,7 +109,7 @@ bind_leaves s ps txt given room = leaves_by (first_of (bind_tests s ps txt given
 
 -- Taking the values up, the part of a bind after its first tests: the room may be too short.
 abbrev pub take_tests : List Pair → ℕ → List (Bool × Refusal)
-take_tests ps room = (nat_lt room (room_bytes ps), RoomShort) ∷ []
+take_tests ps room = (nat_lt room (total_room_bytes ps), RoomShort) ∷ []
 
 -- What taking the values up answers.
 unfoldable pub take_says : State → List Pair → List ℕ → Result ℕ Refusal

@@ -3,7 +3,7 @@ use Rattle.std.proofs.lemmas.List.{take_all}
 use Rattle.sheet.specs.declared.TheConstants.{LIMIT}
 use Rattle.sheet.proofs.front.Goals as goal
 
--- As many bytes as the sheet's limit are those that the limit's figure names.
+-- Where n is 65,536, the first n bytes are the first 65,536.
 limited : (n : ℕ) (s : List ℕ) → n ≡ 65536 → take n s ≡ take 65536 s
 limited n s e = ap (λ m. take m s) e
 

@@ -1,7 +1,7 @@
 // The reader's methods: each reads the next line, or lines of a kind, or says that the sheet is bad there.
 ghost use Rattle.std.specs.Prelude.{◌≡◌, ℕ, ◌+◌, ◌-◌, ◌^◌, ◌<◌, ◌≤◌, Bool, true, false, not, ◌||◌, List, length, drop, MatchResult, ◌==◌};
-ghost use Rattle.sheet.specs.Sheet.{heading_line, name_line, param_line, value_line, GoodHeading, GoodName, GoodParam, GoodValue, names_column};
-ghost use Rattle.sheet.specs.Lines.{Moved, Stuck, Block, Breaks, part_of, PartWithin, cell_of, CellWithin, head_line, GoodHead, Ended, OutcomesBreak};
+ghost use Rattle.sheet.specs.Sheet.{rendered_heading, rendered_name, rendered_param, rendered_value, GoodHeading, GoodName, GoodParam, GoodValue, names_column};
+ghost use Rattle.sheet.specs.Lines.{Moved, Stuck, Block, Breaks, part_of, PartWithin, cell_of, CellWithin, rendered_head, GoodHead, Ended, OutcomesBreak};
 
 use crate::BadSheet;
 use crate::lines::{
@@ -111,8 +111,8 @@ impl<'a> SheetReader<'a> {
     // The first line.
     pub(crate) fn heading(&mut self) -> Result<Heading, BadSheet>
         ensures read { MatchResult result
-            (λ h. Moved heading_line GoodHeading self.old.bytes.now self.old.place self.old.line h self.new.place self.new.line)
-            (λ b. Stuck heading_line GoodHeading self.old.bytes.now self.old.place self.old.line b.line) }
+            (λ h. Moved rendered_heading GoodHeading self.old.bytes.now self.old.place self.old.line h self.new.place self.new.line)
+            (λ b. Stuck rendered_heading GoodHeading self.old.bytes.now self.old.place self.old.line b.line) }
         ensures same { self.new.bytes.now ≡ self.old.bytes.now }
     {
         let Some((heading, n)) = heading_line(self.rest()) else {
@@ -125,8 +125,8 @@ impl<'a> SheetReader<'a> {
     // The name of a column.
     pub(crate) fn name(&mut self) -> Result<Part, BadSheet>
         ensures read { MatchResult result
-            (λ p. Moved name_line GoodName self.old.bytes.now self.old.place self.old.line (part_of self.old.bytes.now p) self.new.place self.new.line × PartWithin self.old.bytes.now p)
-            (λ b. Stuck name_line GoodName self.old.bytes.now self.old.place self.old.line b.line) }
+            (λ p. Moved rendered_name GoodName self.old.bytes.now self.old.place self.old.line (part_of self.old.bytes.now p) self.new.place self.new.line × PartWithin self.old.bytes.now p)
+            (λ b. Stuck rendered_name GoodName self.old.bytes.now self.old.place self.old.line b.line) }
         ensures same { self.new.bytes.now ≡ self.old.bytes.now }
     {
         let Some((part, n)) = name_line(self.rest()) else {
@@ -140,8 +140,8 @@ impl<'a> SheetReader<'a> {
     // The column of a parameter, one of so many, or 0.
     pub(crate) fn parameter(&mut self, columns: u64) -> Result<u64, BadSheet>
         ensures read { MatchResult result
-            (λ k. Moved param_line (GoodParam columns) self.old.bytes.now self.old.place self.old.line k self.new.place self.new.line)
-            (λ b. Stuck param_line (GoodParam columns) self.old.bytes.now self.old.place self.old.line b.line) }
+            (λ k. Moved rendered_param (GoodParam columns) self.old.bytes.now self.old.place self.old.line k self.new.place self.new.line)
+            (λ b. Stuck rendered_param (GoodParam columns) self.old.bytes.now self.old.place self.old.line b.line) }
         ensures same { self.new.bytes.now ≡ self.old.bytes.now }
     {
         let Some((column, n)) = param_line(self.rest(), columns) else {
@@ -154,8 +154,8 @@ impl<'a> SheetReader<'a> {
     // A value of a row.
     pub(crate) fn value(&mut self) -> Result<Cell, BadSheet>
         ensures read { MatchResult result
-            (λ v. Moved value_line GoodValue self.old.bytes.now self.old.place self.old.line (cell_of self.old.bytes.now v) self.new.place self.new.line × CellWithin self.old.bytes.now v)
-            (λ b. Stuck value_line GoodValue self.old.bytes.now self.old.place self.old.line b.line) }
+            (λ v. Moved rendered_value GoodValue self.old.bytes.now self.old.place self.old.line (cell_of self.old.bytes.now v) self.new.place self.new.line × CellWithin self.old.bytes.now v)
+            (λ b. Stuck rendered_value GoodValue self.old.bytes.now self.old.place self.old.line b.line) }
         ensures same { self.new.bytes.now ≡ self.old.bytes.now }
     {
         let rest = self.rest();
@@ -170,8 +170,8 @@ impl<'a> SheetReader<'a> {
     // The first line of an outcome, or the last line.
     pub(crate) fn outcome(&mut self, table: bool) -> Result<Head, BadSheet>
         ensures read { MatchResult result
-            (λ h. Moved head_line (GoodHead table) self.old.bytes.now self.old.place self.old.line h self.new.place self.new.line)
-            (λ b. Stuck head_line (GoodHead table) self.old.bytes.now self.old.place self.old.line b.line) }
+            (λ h. Moved rendered_head (GoodHead table) self.old.bytes.now self.old.place self.old.line h self.new.place self.new.line)
+            (λ b. Stuck rendered_head (GoodHead table) self.old.bytes.now self.old.place self.old.line b.line) }
         ensures same { self.new.bytes.now ≡ self.old.bytes.now }
     {
         let Some((head, n)) = outcome_line(self.rest(), table) else {
@@ -184,8 +184,8 @@ impl<'a> SheetReader<'a> {
     // The names of the columns.
     pub(crate) fn names(&mut self, columns: u64) -> Result<(), BadSheet>
         ensures read { MatchResult result
-            (λ _. Block name_line GoodName self.old.bytes.now self.old.place columns self.new.place × (self.new.line ≡ self.old.line + columns))
-            (λ b. Breaks name_line GoodName self.old.bytes.now self.old.place self.old.line columns b.line) }
+            (λ _. Block rendered_name GoodName self.old.bytes.now self.old.place columns self.new.place × (self.new.line ≡ self.old.line + columns))
+            (λ b. Breaks rendered_name GoodName self.old.bytes.now self.old.place self.old.line columns b.line) }
         ensures same { self.new.bytes.now ≡ self.old.bytes.now }
     {
         for _ in 0..columns {
@@ -197,8 +197,8 @@ impl<'a> SheetReader<'a> {
     // The parameters, and whether some of them names a column.
     pub(crate) fn parameters(&mut self, columns: u64, parameters: u64) -> Result<bool, BadSheet>
         ensures read { MatchResult result
-            (λ table. (b : Block param_line (GoodParam columns) self.old.bytes.now self.old.place parameters self.new.place) × (table ≡ names_column b.items) × (self.new.line ≡ self.old.line + parameters))
-            (λ b. Breaks param_line (GoodParam columns) self.old.bytes.now self.old.place self.old.line parameters b.line) }
+            (λ table. (b : Block rendered_param (GoodParam columns) self.old.bytes.now self.old.place parameters self.new.place) × (table ≡ names_column b.items) × (self.new.line ≡ self.old.line + parameters))
+            (λ b. Breaks rendered_param (GoodParam columns) self.old.bytes.now self.old.place self.old.line parameters b.line) }
         ensures same { self.new.bytes.now ≡ self.old.bytes.now }
     {
         let mut table = false;
@@ -212,8 +212,8 @@ impl<'a> SheetReader<'a> {
     // The values of a row.
     pub(crate) fn row(&mut self, columns: u64) -> Result<(), BadSheet>
         ensures read { MatchResult result
-            (λ _. Block value_line GoodValue self.old.bytes.now self.old.place columns self.new.place × (self.new.line ≡ self.old.line + columns))
-            (λ b. Breaks value_line GoodValue self.old.bytes.now self.old.place self.old.line columns b.line) }
+            (λ _. Block rendered_value GoodValue self.old.bytes.now self.old.place columns self.new.place × (self.new.line ≡ self.old.line + columns))
+            (λ b. Breaks rendered_value GoodValue self.old.bytes.now self.old.place self.old.line columns b.line) }
         ensures same { self.new.bytes.now ≡ self.old.bytes.now }
     {
         for _ in 0..columns {

@@ -3,7 +3,7 @@ use Rattle.std.proofs.lemmas.List.{take_rest, drop-drop}
 use Rattle.values.specs.Types.{type_number}
 use Rattle.figures.specs.Figures.{Figured}
 use Rattle.sheet.specs.Lines.{Reads, Lacks}
-use Rattle.calls.specs.Items.{behind_type, AskedBy, NoType, datum_of, ContentWithin}
+use Rattle.calls.specs.Items.{rendered_datum, AskedBy, NoType, datum_of, ContentWithin}
 use Rattle.calls.proofs.Lines.{open_two, null_none, null_reads, tpe_none, behind_none, item_reads}
 use Rattle.calls.proofs.items.item_line.Goals as goal
 
@@ -35,7 +35,7 @@ returns-in_err-content c =
     let j = c.in_ok-tpe-2.j in
     let t = c.in_ok-tpe-2.tpe in
     let f : Figured 32 7 (drop 2 s) (type_number t) j = rw (take_rest s 2) at c.in_ok-tpe-2.ensures in
-    let n : Lacks behind_type (AskedBy (get_or s 0 0)) (drop j (drop 2 s)) = rw (take_rest (drop 2 s) j) at (rw (take_rest s 2) at c.in_err-content.ensures) in
+    let n : Lacks rendered_datum (AskedBy (get_or s 0 0)) (drop j (drop 2 s)) = rw (take_rest (drop 2 s) j) at (rw (take_rest s 2) at c.in_err-content.ensures) in
     rw c.from_residual-in_err-content.ensures (behind_none s (get_or s 0 0) j t (open_two s (omega arith) (omega arith)) (λ h. omega (arith, h)) f n)
 
 pub returns : goal.returns
@@ -47,7 +47,7 @@ returns c =
     let content = c.in_ok-content.content in
     let d = drop j (drop 2 s) in
     let f : Figured 32 7 (drop 2 s) (type_number t) j = rw (take_rest s 2) at c.in_ok-tpe-2.ensures in
-    let r : Reads behind_type (AskedBy (get_or s 0 0)) d (datum_of d content) k × ContentWithin (length d) content = rw (take_rest (drop 2 s) j) at (rw (take_rest s 2) at c.in_ok-content.ensures) in
+    let r : Reads rendered_datum (AskedBy (get_or s 0 0)) d (datum_of d content) k × ContentWithin (length d) content = rw (take_rest (drop 2 s) j) at (rw (take_rest s 2) at c.in_ok-content.ensures) in
     let a : 2 + j ≡ j + 2 = omega arith in
     let dd : d ≡ drop (j + 2) s = drop-drop j 2 s ∙ ap (λ n. drop n s) a in
     let is : datum_of d content ≡ datum_of s c.moved.result = ap (λ l. datum_of l content) dd ∙ sym (c.moved.ensures.datum s) in

@@ -1,6 +1,6 @@
 use Rattle.std.proofs.Common.{ℕ, ◌≤◌, false, List, length, sym, ◌∙◌, subst, arith}
-use Rattle.sheet.specs.Sheet.{value_line, GoodValue}
-use Rattle.sheet.specs.Lines.{Moved, Stuck, Block, Breaks, head_line, GoodHead}
+use Rattle.sheet.specs.Sheet.{rendered_value, GoodValue}
+use Rattle.sheet.specs.Lines.{Moved, Stuck, Block, Breaks, rendered_head, GoodHead}
 use Rattle.sheet.specs.Places.{Plays}
 use Rattle.sheet.specs.declared.lines.Head.{Head}
 use Rattle.sheet.specs.declared.play.Played.TheVariants as played
@@ -15,7 +15,7 @@ returns-in_default c = λ os x.
     let w = at_within s c.args.columns p os x in
     let h : p ≤ length s = omega arith in
     let bad = c.in_default.field-0.line in
-    let f = both (λ (z : List ℕ) (i : ℕ). Stuck head_line (GoodHead false) z i r0.line bad) c.at-reader.ensures.bytes (c.at-reader.ensures.place h) c.in_default.ensures.read in
+    let f = both (λ (z : List ℕ) (i : ℕ). Stuck rendered_head (GoodHead false) z i r0.line bad) c.at-reader.ensures.bytes (c.at-reader.ensures.place h) c.in_default.ensures.read in
     absurd (play_none s c.args.columns p r0.line bad os x f)
 
 pub returns-in-Done : goal.returns-in-Done
@@ -26,8 +26,8 @@ returns-in-Done c = λ os x.
     let r1 = c.outcome.new.self in
     let w = at_within s c.args.columns p os x in
     let h : p ≤ length s = omega arith in
-    let m = both (λ (z : List ℕ) (i : ℕ). Moved head_line (GoodHead false) z i r0.line c.in-Ok.head r1.place r1.line) c.at-reader.ensures.bytes (c.at-reader.ensures.place h) c.in-Ok.ensures.read in
-    let m1 = subst (λ (z : Head). Moved head_line (GoodHead false) s p r0.line z r1.place r1.line) c.in-Done.is m in
+    let m = both (λ (z : List ℕ) (i : ℕ). Moved rendered_head (GoodHead false) z i r0.line c.in-Ok.head r1.place r1.line) c.at-reader.ensures.bytes (c.at-reader.ensures.place h) c.in-Ok.ensures.read in
+    let m1 = subst (λ (z : Head). Moved rendered_head (GoodHead false) s p r0.line z r1.place r1.line) c.in-Done.is m in
     subst (λ (z : ℕ). Plays s c.args.columns os (played.Done z)) (sym c.place-first.ensures) (plays_done s c.args.columns p r0.line r1.place r1.line os x m1)
 
 pub returns-in-Failed : goal.returns-in-Failed
@@ -38,8 +38,8 @@ returns-in-Failed c = λ os x.
     let r1 = c.outcome.new.self in
     let w = at_within s c.args.columns p os x in
     let h : p ≤ length s = omega arith in
-    let m = both (λ (z : List ℕ) (i : ℕ). Moved head_line (GoodHead false) z i r0.line c.in-Ok.head r1.place r1.line) c.at-reader.ensures.bytes (c.at-reader.ensures.place h) c.in-Ok.ensures.read in
-    let m1 = subst (λ (z : Head). Moved head_line (GoodHead false) s p r0.line z r1.place r1.line) c.in-Failed.is m in
+    let m = both (λ (z : List ℕ) (i : ℕ). Moved rendered_head (GoodHead false) z i r0.line c.in-Ok.head r1.place r1.line) c.at-reader.ensures.bytes (c.at-reader.ensures.place h) c.in-Ok.ensures.read in
+    let m1 = subst (λ (z : Head). Moved rendered_head (GoodHead false) s p r0.line z r1.place r1.line) c.in-Failed.is m in
     subst (λ (z : ℕ). Plays s c.args.columns os (played.Failed c.in-Failed.code z)) (sym c.place-first.ensures) (plays_failed s c.args.columns p r0.line r1.place r1.line c.in-Failed.code os x m1)
 
 pub returns-in-End : goal.returns-in-End
@@ -50,8 +50,8 @@ returns-in-End c = λ os x.
     let r1 = c.outcome.new.self in
     let w = at_within s c.args.columns p os x in
     let h : p ≤ length s = omega arith in
-    let m = both (λ (z : List ℕ) (i : ℕ). Moved head_line (GoodHead false) z i r0.line c.in-Ok.head r1.place r1.line) c.at-reader.ensures.bytes (c.at-reader.ensures.place h) c.in-Ok.ensures.read in
-    let m1 = subst (λ (z : Head). Moved head_line (GoodHead false) s p r0.line z r1.place r1.line) c.in-End.is m in
+    let m = both (λ (z : List ℕ) (i : ℕ). Moved rendered_head (GoodHead false) z i r0.line c.in-Ok.head r1.place r1.line) c.at-reader.ensures.bytes (c.at-reader.ensures.place h) c.in-Ok.ensures.read in
+    let m1 = subst (λ (z : Head). Moved rendered_head (GoodHead false) s p r0.line z r1.place r1.line) c.in-End.is m in
     plays_end s c.args.columns p r0.line r1.place r1.line os x m1
 
 pub returns-in-Ok-row : goal.returns-in-Ok-row
@@ -64,10 +64,10 @@ returns-in-Ok-row c = λ os x.
     let r2 = c.row.new.self in
     let w = at_within s cs p os x in
     let h : p ≤ length s = omega arith in
-    let m = both (λ (z : List ℕ) (i : ℕ). Moved head_line (GoodHead false) z i r0.line c.in-Ok.head r1.place r1.line) c.at-reader.ensures.bytes (c.at-reader.ensures.place h) c.in-Ok.ensures.read in
-    let m1 = subst (λ (z : Head). Moved head_line (GoodHead false) s p r0.line z r1.place r1.line) c.in-Row.is m in
+    let m = both (λ (z : List ℕ) (i : ℕ). Moved rendered_head (GoodHead false) z i r0.line c.in-Ok.head r1.place r1.line) c.at-reader.ensures.bytes (c.at-reader.ensures.place h) c.in-Ok.ensures.read in
+    let m1 = subst (λ (z : Head). Moved rendered_head (GoodHead false) s p r0.line z r1.place r1.line) c.in-Row.is m in
     let e1 = c.in-Ok.ensures.same ∙ c.at-reader.ensures.bytes in
-    let b = subst (λ (z : List ℕ). Block value_line GoodValue z r1.place cs r2.place) e1 c.in-Ok-row.ensures.read.0 in
+    let b = subst (λ (z : List ℕ). Block rendered_value GoodValue z r1.place cs r2.place) e1 c.in-Ok-row.ensures.read.0 in
     let y = plays_row s cs p r0.line r1.place r1.line r2.place os x m1 b in
     let y1 = subst (λ (z : ℕ). Plays s cs os (played.Row z r2.place)) (sym c.place-first.ensures) y in
     subst (λ (z : ℕ). Plays s cs os (played.Row c.place-first.result z)) (sym c.place.ensures) y1
@@ -81,9 +81,9 @@ returns-in-Err c = λ os x.
     let r1 = c.outcome.new.self in
     let w = at_within s cs p os x in
     let h : p ≤ length s = omega arith in
-    let m = both (λ (z : List ℕ) (i : ℕ). Moved head_line (GoodHead false) z i r0.line c.in-Ok.head r1.place r1.line) c.at-reader.ensures.bytes (c.at-reader.ensures.place h) c.in-Ok.ensures.read in
-    let m1 = subst (λ (z : Head). Moved head_line (GoodHead false) s p r0.line z r1.place r1.line) c.in-Row.is m in
+    let m = both (λ (z : List ℕ) (i : ℕ). Moved rendered_head (GoodHead false) z i r0.line c.in-Ok.head r1.place r1.line) c.at-reader.ensures.bytes (c.at-reader.ensures.place h) c.in-Ok.ensures.read in
+    let m1 = subst (λ (z : Head). Moved rendered_head (GoodHead false) s p r0.line z r1.place r1.line) c.in-Row.is m in
     let e1 = c.in-Ok.ensures.same ∙ c.at-reader.ensures.bytes in
     let bad = c.in-Err.field-0.line in
-    let b = subst (λ (z : List ℕ). Breaks value_line GoodValue z r1.place r1.line cs bad) e1 c.in-Err.ensures.read in
+    let b = subst (λ (z : List ℕ). Breaks rendered_value GoodValue z r1.place r1.line cs bad) e1 c.in-Err.ensures.read in
     absurd (plays_short s cs p r0.line r1.place r1.line r1.line bad os x m1 b)

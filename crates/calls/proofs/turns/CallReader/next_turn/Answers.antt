@@ -3,7 +3,7 @@ use Rattle.std.proofs.lemmas.Bool.{false≢true}
 use Rattle.std.proofs.lemmas.List.{take_rest}
 use Rattle.sheet.specs.Lines.{Reads, Lacks}
 use Rattle.calls.specs.Binds.{Because, bundle_of, ValuesRead, NoLines}
-use Rattle.calls.specs.Calls.{bind_line, call_lines, GoodHead, GoodCall}
+use Rattle.calls.specs.Calls.{rendered_bind, call_lines, GoodHead, GoodCall}
 use Rattle.calls.proofs.Taking.{because}
 use Rattle.calls.proofs.Calling.{call_none, call_short, execute_read, end_read, bind_read, turn_moved}
 use Rattle.runs.specs.declared.turns.Turn.{Turn}
@@ -37,7 +37,7 @@ returns-in_default c =
     let r = c.args.self.now in
     let s = r.bytes.now in
     let p = r.place in
-    let n : Lacks bind_line GoodHead (drop p s) = rw (take_rest s p) at c.in_default.ensures in
+    let n : Lacks rendered_bind GoodHead (drop p s) = rw (take_rest s p) at c.in_default.ensures in
     record {
       same = refl;
       moved = λ h. absurd (false≢true h);
@@ -51,7 +51,7 @@ returns-in_err-values c =
     let p = r.place in
     let n = c.in-Some.n in
     let fault = c.in_err-values.field-0.0 in
-    let rd : Reads bind_line GoodHead (drop p s) (c.in-Some.query, c.in-Some.count) n = rw (take_rest s p) at c.in-Some.ensures in
+    let rd : Reads rendered_bind GoodHead (drop p s) (c.in-Some.query, c.in-Some.count) n = rw (take_rest s p) at c.in-Some.ensures in
     let x : Because (NoLines s (p + n) c.in-Some.count) fault = c.in_err-values.ensures.read in
     let f : Because (Lacks call_lines GoodCall (drop p s)) fault = because fault (call_short s p c.in-Some.query c.in-Some.count n rd) x in
     let e = c.in_err-values.ensures.same in
@@ -65,7 +65,7 @@ returns c =
     let n = c.in-Some.n in
     let q = c.values.new.self.place in
     let b = bundle_of c.in_ok-values.values in
-    let rd : Reads bind_line GoodHead (drop p s) (c.in-Some.query, c.in-Some.count) n = rw (take_rest s p) at c.in-Some.ensures in
+    let rd : Reads rendered_bind GoodHead (drop p s) (c.in-Some.query, c.in-Some.count) n = rw (take_rest s p) at c.in-Some.ensures in
     let x : ValuesRead s (p + n) c.in-Some.count q b = c.in_ok-values.ensures.read in
     record {
       same = c.in_ok-values.ensures.same;

@@ -1,7 +1,7 @@
 use Rattle.std.proofs.Common.{◌≡◌, drop, subst, arith, rules}
 use Rattle.std.proofs.lemmas.List.{take_rest}
 use Rattle.sheet.specs.Lines.{Lacks}
-use Rattle.calls.specs.Items.{item_line}
+use Rattle.calls.specs.Items.{rendered_item}
 use Rattle.calls.specs.Binds.{GoodNext, Because, LineTaken, ValuesRead, NoLines, bundle_of}
 use Rattle.calls.proofs.Taking.{because, walked_none, walked_more, walked_stuck}
 use Rattle.calls.proofs.turns.CallReader.values.Goals as goal
@@ -18,7 +18,7 @@ returns-in_err-n c =
     let w = c.loop.invariant in
     let e = w.same in
     let h = w.ahead in
-    let x : Because (Lacks item_line (GoodNext b) (drop q.place q.bytes.now)) fault = rw (take_rest q.bytes.now q.place) at c.in_err-n.ensures in
+    let x : Because (Lacks rendered_item (GoodNext b) (drop q.place q.bytes.now)) fault = rw (take_rest q.bytes.now q.place) at c.in_err-n.ensures in
     let f : Because (NoLines r.bytes.now r.place c.args.count) fault = because fault (walked_stuck r.bytes.now r.place c.loop.counter q.bytes.now q.place c.args.count b w (omega arith)) x in
     search rules
 

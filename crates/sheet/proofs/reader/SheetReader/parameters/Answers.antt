@@ -1,5 +1,5 @@
 use Rattle.std.proofs.Common.{◌≡◌, ◌∙◌, arith, rules}
-use Rattle.sheet.specs.Sheet.{param_line, GoodParam}
+use Rattle.sheet.specs.Sheet.{rendered_param, GoodParam}
 use Rattle.sheet.proofs.Moves.{walked_breaks, columns_none, columns_more, columns_all}
 use Rattle.sheet.proofs.reader.SheetReader.parameters.Goals as goal
 
@@ -12,7 +12,7 @@ returns-in_err-column c =
     let q = c.loop.self in
     let x = c.in_err-column.ensures in
     let w = c.loop.invariant.walked in
-    let b = walked_breaks param_line (GoodParam c.args.columns) r.bytes.now r.place r.line c.loop.counter q.bytes.now q.place q.line c.args.parameters c.in_err-column.field-0.0.line w (omega arith) x.read in
+    let b = walked_breaks rendered_param (GoodParam c.args.columns) r.bytes.now r.place r.line c.loop.counter q.bytes.now q.place q.line c.args.parameters c.in_err-column.field-0.0.line w (omega arith) x.read in
     let e = x.same ∙ w.same in
     search rules
 

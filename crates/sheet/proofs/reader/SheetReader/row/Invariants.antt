@@ -1,6 +1,6 @@
-use Rattle.sheet.specs.Sheet.{value_line, GoodValue}
+use Rattle.sheet.specs.Sheet.{rendered_value, GoodValue}
 use Rattle.sheet.proofs.Moves.{Walked}
 use Rattle.sheet.proofs.reader.SheetReader.row.Given as goal
 
 abbrev pub invariant-loop : goal.invariant-loop
-invariant-loop l = Walked value_line GoodValue l.initial.self.bytes.now l.initial.self.place l.initial.self.line l.counter l.self.bytes.now l.self.place l.self.line
+invariant-loop l = Walked rendered_value GoodValue l.initial.self.bytes.now l.initial.self.place l.initial.self.line l.counter l.self.bytes.now l.self.place l.self.line

@@ -1,6 +1,6 @@
 use Rattle.std.proofs.Common.{◌+◌, ◌<◌, length, drop, refl, arith}
 use Rattle.std.specs.List.{flat_map}
-use Rattle.sheet.specs.Sheet.{name_line}
+use Rattle.sheet.specs.Sheet.{rendered_name}
 use Rattle.sheet.specs.Decode.{sheet_at}
 use Rattle.sheet.proofs.Standing.{by_name}
 use Rattle.script.proofs.Hosted.{sheet_fine}
@@ -14,4 +14,4 @@ returns c =
     let e = self.every in
     let l = c.if-not-has_column.ensures.0 refl in
     let h : c.args.index < length ns = omega arith in
-    by_name c.name_at.result ns c.args.index h (c.name_at.ensures ns (drop (self.names + length (flat_map name_line ns)) s) h (sheet_fine (sheet_at s) self.good).names self.named)
+    by_name c.name_at.result ns c.args.index h (c.name_at.ensures ns (drop (self.names + length (flat_map rendered_name ns)) s) h (sheet_fine (sheet_at s) self.good).names self.named)

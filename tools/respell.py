@@ -1,7 +1,7 @@
 #!/usr/bin/env python3
 """Brings the names of definitions, fields and lemmas to snake case.
 
-Run once at the top of the repository, after the toolchain's own port script. It makes two passes:
+Run once at the top of the repository, after the toolchain's own port script. It makes two passes over names:
 a name that the .antt files declare in lower camel case is respelled wherever it stands as a word in .antt and .rt
 files, edits and documents; then one with dashes is, in .antt files alone, since prose has words with dashes of its own.
 Comments keep their words, and goals and steps, which the check names, keep their spelling. No other word of the
@@ -37,6 +37,8 @@ OTHER = {
     "behindType": "rendered_datum",
     "bindLine": "rendered_bind",
 }
+# The same where the toolchain's script respelled it: the value in front of bytes, and a row's value by its number.
+PORTED = {"value_at": "front_value"}
 # Fields that would have the name of a definition.
 FIELDS = {"names-at": "names_from", "outcomes-at": "outcomes_from"}
 
@@ -108,6 +110,18 @@ def camel():
     respell(turned, antt() + rest())
 
 
+def ported():
+    """A definition stands in no path and behind no dot; the function's goals do."""
+    for f in antt():
+        text = read(f)
+        new = text
+        for old, name in PORTED.items():
+            new = re.sub(r"(?<![A-Za-z0-9_'.-])" + old + r"(?![A-Za-z0-9_'-])", name, new)
+        if new != text:
+            with open(f, "w", encoding="utf-8") as opened:
+                opened.write(new)
+
+
 def dashed():
     seen = words()
     turned = {}
@@ -126,4 +140,5 @@ if __name__ == "__main__":
     if not glob.glob("crates.txt"):
         sys.exit("run this at the top of the repository")
     camel()
+    ported()
     dashed()

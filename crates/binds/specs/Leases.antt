@@ -1,18 +1,8 @@
--- What the ledger and the table of slots hold, and a room whose leases are zeroed.
-use Rattle.std.specs.Prelude.{ℕ, cond, List, [], ◌∷◌, length, take, replicate}
+-- A room whose leases are zeroed.
+use Rattle.std.specs.Prelude.{ℕ, cond, List, [], ◌∷◌, length, replicate}
 use Rattle.std.proofs.Math.Seq.{paste}
 use Rattle.binds.specs.declared.collector.Span.{Span}
-use Rattle.binds.specs.declared.ledger.Ledger.{Ledger}
-use Rattle.binds.specs.declared.ledger.ByteSlots.{ByteSlots}
 use Rattle.binds.specs.Pairs.{span_inside}
-
--- The leases in use.
-abbrev pub leases_of : Ledger → List Span
-leases_of l = take l.count l.leases
-
--- The slots in use.
-abbrev pub slots_of : ByteSlots → List ℕ
-slots_of b = take b.count b.slots
 
 -- A room with zeros in one stretch.
 abbrev pub zeroed_span : Span → List ℕ → List ℕ

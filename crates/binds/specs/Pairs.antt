@@ -1,5 +1,6 @@
 -- What a caller asks of a list of (declared type, value) pairs.
 use Rattle.std.specs.Prelude.{ℕ, ◌+◌, Bool, true, false, ◌&&◌, ◌||◌, List, [], ◌∷◌, ◌++◌, take, drop, Some, None, Option, ◌==◌, nat_le}
+use Rattle.std.specs.List.{list_all, sum_by}
 use Rattle.values.specs.Types.{type_number}
 use Rattle.values.specs.declared.SqliteType.{SqliteType}
 use Rattle.host.specs.Slots.{double_slot}
@@ -73,20 +74,19 @@ abbrev pub value_inside : ℕ → ℕ → SqliteBindValue → Bool
 value_inside txt given v = span_fits txt (borrowed_span v) && span_fits given (owned_span v)
 
 -- Each stretch of a kind lies inside so many bytes.
-unfoldable pub all_fit : ℕ → (SqliteBindValue → Option Span) → List Pair → Bool
-all_fit size f [] = true
-all_fit size f (p ∷ ps) = span_fits size (f p.1) && all_fit size f ps
+abbrev pub all_fit : ℕ → (SqliteBindValue → Option Span) → List Pair → Bool
+all_fit size f ps = list_all (λ p. span_fits size (f p.1)) ps
 
 -- Each value lies inside its buffer.
 abbrev pub all_inside : ℕ → ℕ → List Pair → Bool
-all_inside txt given ps = all_fit txt borrowed_span ps && all_fit given owned_span ps
+all_inside txt given ps = list_all (λ p. value_inside txt given p.1) ps
 
--- How many bytes a value takes in the room, and whether it takes a lease there, even an empty one.
+-- How many bytes a value takes in the room.
 abbrev pub span_length : Option Span → ℕ
 span_length None = 0
 span_length (Some s) = s.len
 
--- 1 for a value that takes a lease.
+-- 1 for a value that takes a lease in the room, even an empty one.
 abbrev pub one_if : Option Span → ℕ
 one_if None = 0
 one_if (Some s) = 1
@@ -97,36 +97,35 @@ owned_count [] = 0
 owned_count (p ∷ ps) = one_if (owned_span p.1) + owned_count ps
 
 -- The bytes that they take in the room.
-unfoldable pub total_room_bytes : List Pair → ℕ
-total_room_bytes [] = 0
-total_room_bytes (p ∷ ps) = span_length (owned_span p.1) + total_room_bytes ps
+abbrev pub total_room_bytes : List Pair → ℕ
+total_room_bytes ps = sum_by (λ p. span_length (owned_span p.1)) ps
 
--- Their leases: the first from a place of the room on, the next where it ends.
+-- The lease of an owned value, from a place of the room on.
 abbrev pub lease_of : ℕ → Option Span → List Span
 lease_of at None = []
 lease_of at (Some s) = record { start = at; len = s.len } ∷ []
 
--- The leases of all owned values.
+-- The leases of all owned values: the first from a place of the room on, the next where it ends.
 unfoldable pub leases_from : ℕ → List Pair → List Span
 leases_from at [] = []
 leases_from at (p ∷ ps) = lease_of at (owned_span p.1) ++ leases_from (at + span_length (owned_span p.1)) ps
 
--- Their bytes, one value after the other.
+-- The bytes of an owned value.
 abbrev pub span_bytes : List ℕ → Option Span → List ℕ
 span_bytes given None = []
 span_bytes given (Some s) = take s.len (drop s.start given)
 
--- The bytes of all owned values.
+-- The bytes of all owned values, one value after the other.
 unfoldable pub owned_bytes : List ℕ → List Pair → List ℕ
 owned_bytes given [] = []
 owned_bytes given (p ∷ ps) = span_bytes given (owned_span p.1) ++ owned_bytes given ps
 
--- The slots of text and bytes, which a return makes null; the first pair is for slot i.
+-- A number, if a test holds.
 abbrev pub number_if : Bool → ℕ → List ℕ
 number_if true i = i ∷ []
 number_if false i = []
 
--- The numbers of all slots that take text or bytes.
+-- The numbers of the slots that take text or bytes, which a return makes null; the first pair is for slot i.
 unfoldable pub byte_slots : ℕ → List Pair → List ℕ
 byte_slots i [] = []
 byte_slots i (p ∷ ps) = number_if (takes_bytes p.1) i ++ byte_slots (i + 1) ps

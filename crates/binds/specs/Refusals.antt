@@ -33,3 +33,7 @@ refusal_figures StepsSpent = (0, 0)
 -- The refusal of a room that is too short for the owned values.
 abbrev pub room_short : Refusal
 room_short = RoomShort
+
+-- The refusal of more than 32 values.
+abbrev pub too_many_values : Refusal
+too_many_values = TooManyValues

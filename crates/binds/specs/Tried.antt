@@ -18,16 +18,16 @@ pub record Tried : Type 0 where
 abbrev pub tried : Meaning → ℕ → Option Unbindable → Tried
 tried m n w = record { host = m; bound = n; why = w }
 
--- One value: its type is tested first, then the host is asked.
+-- The host's fault as a reason.
 abbrev pub fault_unbindable : BindFault → Unbindable
 fault_unbindable f = Fault f
 
--- The host's fault as a reason.
+-- The host's fault, or none, as a reason, or none.
 abbrev pub fault_why : Option BindFault → Option Unbindable
 fault_why None = None
 fault_why (Some f) = Some (fault_unbindable f)
 
--- Why a value is not bound at a slot.
+-- Why a value is not bound at a slot: its type is tested first, then the host is asked.
 abbrev pub one_why : Meaning → ℕ → ℕ → Pair → Option Unbindable
 one_why m i at p = cond (pairs_up p.0 p.1) (fault_why (bind_fault m i (slot_for at p.1))) (Some Unpaired)
 
@@ -40,12 +40,13 @@ abbrev pub why_answer : Option Unbindable → Result (Unit {0}) Unbindable
 why_answer None = Ok tt
 why_answer (Some w) = Err w
 
--- The values in order, each at the slot of its number, until one is refused; the next owned one has its lease at a place of the room.
+-- Where a reason stops, or else the rest.
 abbrev pub go_on : Option Unbindable → Tried → Tried → Tried
 go_on None stop rest = rest
 go_on (Some w) stop rest = stop
 
--- How far the values come, after so many that are bound.
+-- How far the values come, after so many that are bound: each at the slot of its number, until one is refused.
+-- The next owned one has its lease at a place of the room.
 unfoldable pub bind_from : Meaning → ℕ → ℕ → List Pair → Tried
 bind_from m n at [] = tried m n None
 bind_from m n at (p ∷ ps) =

@@ -4,8 +4,9 @@ ghost use Rattle.binds.specs.Pairs.{pairs_up, owned_span, takes_bytes, span_insi
 
 use values::SqliteType;
 
-// A stretch of bytes: of the text for a borrowed value, of the given bytes for an owned one, of the room for a lease.
-#[derive(Clone, Copy)]
+// A stretch of bytes: of the text for a borrowed value, of the given bytes for an owned one, of the
+// room for a lease.
+#[derive(Clone, Copy, PartialEq, Eq, Debug)]
 pub struct Span {
     pub start: usize,
     pub len: usize,
@@ -40,8 +41,7 @@ impl SqliteBindValue {
         ensures { result ≡ owned_span self.now }
     {
         match *self {
-            SqliteBindValue::String(span) => Some(span),
-            SqliteBindValue::Binary(span) => Some(span),
+            Self::String(span) | Self::Binary(span) => Some(span),
             _ => None,
         }
     }
@@ -50,13 +50,10 @@ impl SqliteBindValue {
     pub(crate) fn takes_bytes(&self) -> bool
         ensures { result ≡ takes_bytes self.now }
     {
-        match *self {
-            SqliteBindValue::BorrowedString(_) => true,
-            SqliteBindValue::String(_) => true,
-            SqliteBindValue::BorrowedBinary(_) => true,
-            SqliteBindValue::Binary(_) => true,
-            _ => false,
-        }
+        matches!(
+            *self,
+            Self::BorrowedString(_) | Self::String(_) | Self::BorrowedBinary(_) | Self::Binary(_)
+        )
     }
 
     // Whether the value lies inside the text, if borrowed, or the given bytes, if owned.
@@ -64,31 +61,24 @@ impl SqliteBindValue {
         ensures { result ≡ value_inside text given self.now }
     {
         match *self {
-            SqliteBindValue::BorrowedString(span) => span.is_inside(text),
-            SqliteBindValue::BorrowedBinary(span) => span.is_inside(text),
-            SqliteBindValue::String(span) => span.is_inside(given),
-            SqliteBindValue::Binary(span) => span.is_inside(given),
+            Self::BorrowedString(span) | Self::BorrowedBinary(span) => span.is_inside(text),
+            Self::String(span) | Self::Binary(span) => span.is_inside(given),
             _ => true,
         }
     }
-}
 
-// Whether a value may be bound under a declared type.
-pub(crate) fn pairs_up(tpe: SqliteType, value: &SqliteBindValue) -> bool
-    ensures { result ≡ pairs_up tpe value.now }
-{
-    match (tpe, value) {
-        (_, SqliteBindValue::Null) => true,
-        (SqliteType::Binary, SqliteBindValue::BorrowedBinary(_)) => true,
-        (SqliteType::Binary, SqliteBindValue::Binary(_)) => true,
-        (SqliteType::Text, SqliteBindValue::BorrowedString(_)) => true,
-        (SqliteType::Text, SqliteBindValue::String(_)) => true,
-        (SqliteType::Float, SqliteBindValue::F64(_)) => true,
-        (SqliteType::Double, SqliteBindValue::F64(_)) => true,
-        (SqliteType::SmallInt, SqliteBindValue::I32(_)) => true,
-        (SqliteType::Integer, SqliteBindValue::I32(_)) => true,
-        (SqliteType::Long, SqliteBindValue::I64(_)) => true,
-        _ => false,
+    // Whether the value may be bound under a declared type.
+    pub(crate) fn pairs_with(&self, tpe: SqliteType) -> bool
+        ensures { result ≡ pairs_up tpe self.now }
+    {
+        match *self {
+            Self::Null => true,
+            Self::BorrowedBinary(_) | Self::Binary(_) => tpe == SqliteType::Binary,
+            Self::BorrowedString(_) | Self::String(_) => tpe == SqliteType::Text,
+            Self::F64(_) => matches!(tpe, SqliteType::Float | SqliteType::Double),
+            Self::I32(_) => matches!(tpe, SqliteType::SmallInt | SqliteType::Integer),
+            Self::I64(_) => tpe == SqliteType::Long,
+        }
     }
 }
 
@@ -96,10 +86,5 @@ pub(crate) fn pairs_up(tpe: SqliteType, value: &SqliteBindValue) -> bool
 pub fn all_inside(pairs: &[(SqliteType, SqliteBindValue)], text: usize, given: usize) -> bool
     ensures { result ≡ all_inside text given pairs.now }
 {
-    for (_, value) in pairs {
-        if !value.is_inside(text, given) {
-            return false;
-        }
-    }
-    true
+    pairs.iter().all(|(_, value)| value.is_inside(text, given))
 }

@@ -3,6 +3,7 @@
 
 pub mod collector;
 pub mod ledger;
+pub mod pairs;
 pub mod refusal;
 pub mod returning;
 pub mod taking;

@@ -2,11 +2,11 @@
 ghost use Rattle.std.specs.Prelude.{◌≡◌};
 ghost use Rattle.binds.specs.Refusals.{refusal_number, refusal_figures, room_short};
 
-use crate::ledger::collecting::Full;
+use crate::ledger::Full;
 use host::BindFault;
 
 // What a call is refused for.
-#[derive(Clone, Copy)]
+#[derive(Clone, Copy, PartialEq, Eq, Debug)]
 pub enum Refusal {
     // a binding is current where none may be, or the other way round
     WrongState,
@@ -23,7 +23,8 @@ pub enum Refusal {
 }
 
 impl Refusal {
-    // The number by which a call answers the refusal.
+    // The number by which a call answers the refusal. A match, since a variant with fields has no
+    // number of its own.
     pub fn number(&self) -> u32
         ensures { result ≡ refusal_number self.now }
     {

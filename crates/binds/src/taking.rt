@@ -1,21 +1,20 @@
 // Collecting the values of a bind, and binding them one by one.
-ghost use Rattle.std.specs.Prelude.{◌≡◌, ℕ, ◌+◌, ◌<◌, ◌≤◌, Bool, true, false, List, [], ◌∷◌, ◌++◌, length, take, drop, is_ok, nat_le};
+ghost use Rattle.std.specs.Prelude.{◌≡◌, ◌+◌, ◌<◌, ◌≤◌, true, [], ◌++◌, length, take, drop, is_ok, nat_le};
 ghost use Rattle.host.specs.Slots.{lent, slot_of};
 ghost use Rattle.host.specs.declared.Slot.{Slot};
-ghost use Rattle.binds.specs.Pairs.{slot_for, borrowed_span, owned_span, span_fits, span_length, span_bytes, takes_bytes, number_if, all_fit, total_room_bytes, byte_slots, leases_from, owned_bytes};
-ghost use Rattle.binds.specs.Leases.{leases_of, slots_of};
+ghost use Rattle.binds.specs.Pairs.{slot_for, borrowed_span, owned_span, span_fits, span_length, span_bytes, takes_bytes, number_if, all_fit, total_room_bytes, byte_slots, leases_from, written_room};
 ghost use Rattle.binds.specs.Tried.{fault_unbindable, one_why, one_after, why_answer, bind_from, tried_answer, refusal_at};
-ghost use Rattle.binds.specs.Pairs.{written_room};
 
-use crate::collector::{Span, SqliteBindValue, pairs_up};
-use crate::ledger::ByteSlots;
-use crate::ledger::collecting::{Collecting, Full};
+use crate::collector::{Span, SqliteBindValue};
+use crate::ledger::{Collecting, Full};
+use crate::pairs::Pairs;
 use crate::refusal::Refusal;
 use host::{BindFault, Host, HostValue, Part, Source, TextValue};
 use values::SqliteType;
+use values::few::Few;
 
 // Why a value is not bound: its type and value do not pair, or the host refuses it.
-#[derive(Clone, Copy)]
+#[derive(Clone, Copy, PartialEq, Eq, Debug)]
 pub enum Unbindable {
     Unpaired,
     Fault(BindFault),
@@ -45,6 +44,19 @@ impl Unbindable {
     }
 }
 
+impl Span {
+    // The stretch as a part of a buffer.
+    fn part(self, source: Source) -> Part
+        ensures { result ≡ record { source = source; start = self.start; len = self.len } }
+    {
+        Part {
+            source,
+            start: self.start,
+            len: self.len,
+        }
+    }
+}
+
 // A text as the host takes it: from the text if borrowed, else from the room.
 fn text_value<'a>(part: Part, text: &'a [u8], room: &'a [u8]) -> HostValue<'a>
     requires { part.start + part.len ≤ length (lent text.now room.now part.source) }
@@ -70,34 +82,14 @@ fn host_value<'a>(
 {
     match *value {
         SqliteBindValue::Null => HostValue::Null,
-        SqliteBindValue::BorrowedString(span) => text_value(
-            Part {
-                source: Source::Text,
-                start: span.start,
-                len: span.len,
-            },
-            text,
-            room,
-        ),
-        SqliteBindValue::String(span) => text_value(
-            Part {
-                source: Source::Room,
-                start: at,
-                len: span.len,
-            },
-            text,
-            room,
-        ),
-        SqliteBindValue::BorrowedBinary(span) => HostValue::Blob(Part {
-            source: Source::Text,
-            start: span.start,
-            len: span.len,
-        }),
-        SqliteBindValue::Binary(span) => HostValue::Blob(Part {
-            source: Source::Room,
-            start: at,
-            len: span.len,
-        }),
+        SqliteBindValue::BorrowedString(span) => text_value(span.part(Source::Text), text, room),
+        SqliteBindValue::String(span) => {
+            text_value(Span { start: at, ..span }.part(Source::Room), text, room)
+        }
+        SqliteBindValue::BorrowedBinary(span) => HostValue::Blob(span.part(Source::Text)),
+        SqliteBindValue::Binary(span) => {
+            HostValue::Blob(Span { start: at, ..span }.part(Source::Room))
+        }
         SqliteBindValue::I32(n) => HostValue::Long(i64::from(n)),
         SqliteBindValue::I64(n) => HostValue::Long(n),
         SqliteBindValue::F64(x) => HostValue::Double(x),
@@ -119,7 +111,7 @@ fn bind_one<X: Host>(
     ensures after { X.Host.meaning host.new ≡ one_after (X.Host.meaning host.old) slot at pair.now }
 {
     let (tpe, value) = *pair;
-    if !pairs_up(tpe, &value) {
+    if !value.pairs_with(tpe) {
         return Err(Unbindable::Unpaired);
     }
     host.bind(slot, host_value(&value, at, text, room))?;
@@ -130,43 +122,40 @@ fn bind_one<X: Host>(
 fn room_bytes(value: &SqliteBindValue) -> usize
     ensures { result ≡ span_length (owned_span value.now) }
 {
-    match value.owned() {
-        Some(span) => span.len,
-        None => 0,
-    }
+    value.owned().map_or(0, |span| span.len)
 }
 
 // Notes a slot that took text or bytes.
-fn note(took: &mut ByteSlots, slot: usize, value: &SqliteBindValue)
-    requires { length (slots_of took.old) < 32 }
-    ensures { slots_of took.new ≡ slots_of took.old ++ number_if (takes_bytes value.now) slot }
+fn note(took: &mut Few<usize, 32>, slot: usize, value: &SqliteBindValue)
+    requires { length took.old < 32 }
+    ensures { took.new ≡ took.old ++ number_if (takes_bytes value.now) slot }
 {
     if value.takes_bytes() {
         took.push(slot);
     }
 }
 
-// Binds the values in order, each at the slot of its number, and notes the slots that took text or bytes.
+// Binds the values in order, each at the slot of its number, and notes the slots that took text or
+// bytes.
 pub fn bind_values<X: Host>(
     host: &mut X,
-    pairs: &[(SqliteType, SqliteBindValue)],
+    pairs: &Pairs<'_>,
     text: &[u8],
     room: &[u8],
-    took: &mut ByteSlots,
+    took: &mut Few<usize, 32>,
 ) -> Result<(), Refusal>
-    requires few { length pairs.now ≤ 32 }
-    requires none { slots_of took.old ≡ [] }
+    requires none { took.old ≡ [] }
     requires borrowed { all_fit (length text.now) borrowed_span pairs.now ≡ true }
     requires owned { total_room_bytes pairs.now ≤ length room.now }
     ensures answer { result ≡ tried_answer (bind_from (X.Host.meaning host.old) 0 0 pairs.now) }
-    ensures after { X.Host.meaning host.new ≡ (bind_from (X.Host.meaning host.old) 0 0 pairs.now).host }
-    ensures took { slots_of took.new ≡ byte_slots 1 (take (bind_from (X.Host.meaning host.old) 0 0 pairs.now).bound pairs.now) }
+    ensures after { X.Host.meaning host.new ≡
+        (bind_from (X.Host.meaning host.old) 0 0 pairs.now).host }
+    ensures took { took.new ≡
+        byte_slots 1 (take (bind_from (X.Host.meaning host.old) 0 0 pairs.now).bound pairs.now) }
 {
     let mut at = 0;
-    for (i, pair) in pairs.iter().enumerate() {
-        if let Err(why) = bind_one(host, i + 1, pair, at, text, room) {
-            return Err(why.at(i));
-        }
+    for (i, pair) in pairs.as_slice().iter().enumerate() {
+        bind_one(host, i + 1, pair, at, text, room).map_err(|why| why.at(i))?;
         note(took, i + 1, &pair.1);
         at += room_bytes(&pair.1);
     }
@@ -176,53 +165,33 @@ pub fn bind_values<X: Host>(
 // Enters the leases of the owned values, or stops where the room is too short.
 pub fn enter_leases(
     collecting: &mut Collecting<'_>,
-    pairs: &[(SqliteType, SqliteBindValue)],
+    pairs: &Pairs<'_>,
     room: usize,
 ) -> Result<(), Full>
-    requires few { length pairs.now ≤ 32 }
-    requires none { leases_of collecting.old.ledger.now ≡ [] }
+    requires none { collecting.old.ledger.now.leases ≡ [] }
     requires unused { collecting.old.ledger.now.used ≡ 0 }
     ensures answer { is_ok result ≡ nat_le (total_room_bytes pairs.now) room }
-    ensures leases { is_ok result ≡ true → leases_of collecting.new.ledger.now ≡ leases_from 0 pairs.now }
+    ensures leases { is_ok result ≡ true →
+        collecting.new.ledger.now.leases ≡ leases_from 0 pairs.now }
     ensures before { collecting.new.before ≡ collecting.old.before }
     ensures lender { collecting.new.ledger.ghost_name ≡ collecting.old.ledger.ghost_name }
 {
-    for (_, value) in pairs {
+    for (_, value) in pairs.as_slice() {
         collecting.enter(value.owned(), room)?;
     }
     Ok(())
-}
-
-// Copies bytes into a stretch of their length.
-fn copy_into(stretch: &mut [u8], bytes: &[u8])
-    requires { length stretch.old ≡ length bytes.now }
-    ensures { stretch.new ≡ bytes.now }
-{
-    stretch.copy_from_slice(bytes);
-}
-
-// Copies bytes into the room from a place on: that stretch of the room is lent for writing.
-fn copy_at(room: &mut [u8], at: usize, bytes: &[u8])
-    requires { at + length bytes.now ≤ length room.old }
-    ensures { room.new ≡ take at room.old ++ (bytes.now ++ drop (at + length bytes.now) room.old) }
-{
-    let n = bytes.len();
-    copy_into(&mut room[at..at + n], bytes);
 }
 
 // Copies an owned value into the room from a place on.
 fn write_one(owned: Option<Span>, given: &[u8], room: &mut [u8], at: usize)
     requires inside { span_fits (length given.now) owned ≡ true }
     requires fits { at + span_length owned ≤ length room.old }
-    ensures { room.new ≡ take at room.old ++ (span_bytes given.now owned ++ drop (at + span_length owned) room.old) }
+    ensures { room.new ≡
+        take at room.old ++ (span_bytes given.now owned ++ drop (at + span_length owned) room.old) }
 {
-    match owned {
-        None => {}
-        Some(span) => {
-            let start = span.start;
-            let len = span.len;
-            copy_at(room, at, &given[start..start + len]);
-        }
+    if let Some(span) = owned {
+        let bytes = &given[span.start..span.start + span.len];
+        room[at..at + span.len].copy_from_slice(bytes);
     }
 }
 

@@ -1,5 +1,8 @@
 -- What the value lines of a bind give it: pairs, and the bytes that they name.
-use Rattle.std.specs.Prelude.{◌≡◌, ℕ, ◌+◌, ◌≤◌, List, [], ◌∷◌, ◌++◌, length, drop, vec_items, ◌≢◌}
+use Rattle.std.specs.Prelude.{◌≡◌, ℕ, ◌+◌, ◌≤◌, List, [], ◌∷◌, ◌++◌, length, Some, None, Option, Vec, vec_items, ◌≢◌}
+use Rattle.std.specs.declared.alloc.Global.{Global}
+use Rattle.runs.specs.Turns.{asked, bind}
+use Rattle.runs.specs.declared.turns.Turn.{Turn}
 use Rattle.std.specs.Float.Ieee as Ieee
 use Rattle.std.specs.Float.{binary64}
 use Rattle.std.specs.List.{flat_map, AllByRecursion}
@@ -7,13 +10,10 @@ use Rattle.binds.specs.Pairs.{Pair}
 use Rattle.binds.specs.declared.collector.Span.{Span}
 use Rattle.binds.specs.declared.collector.SqliteBindValue.{SqliteBindValue}
 use Rattle.binds.specs.declared.collector.SqliteBindValue.TheVariants.{BorrowedString, String, BorrowedBinary, Binary, I32, I64, F64, Null}
-use Rattle.sheet.specs.Lines.{Reads, Block}
+use Rattle.figures.specs.Reading.{Reads, Block}
 use Rattle.calls.specs.Items.{Datum, null, int, long, double, text, bytes, Entry, rendered_item, GoodEntry}
 use Rattle.calls.specs.declared.items.Ownership.{Ownership}
 use Rattle.calls.specs.declared.items.Ownership.TheVariants.{Borrowed, Owned}
-use Rattle.calls.specs.declared.turns.Values.{Values}
-use Rattle.calls.specs.declared.turns.CallFault.{CallFault}
-use Rattle.calls.specs.declared.turns.CallFault.TheVariants.{Malformed, Memory}
 
 -- The pairs, the borrowed bytes in order, and the owned bytes in order.
 pub record Bundle : Type 0 where
@@ -21,9 +21,13 @@ pub record Bundle : Type 0 where
   pub text : List ℕ
   pub given : List ℕ
 
+-- A bundle of these.
+abbrev pub bundle : List Pair → List ℕ → List ℕ → Bundle
+bundle ps borrowed owned = record { pairs = ps; text = borrowed; given = owned }
+
 -- Before the first value.
 abbrev pub no_values : Bundle
-no_values = record { pairs = []; text = []; given = [] }
+no_values = bundle [] [] []
 
 -- The bytes of a kind.
 abbrev pub held_bytes : Ownership → Bundle → List ℕ
@@ -32,8 +36,8 @@ held_bytes Owned b = b.given
 
 -- More bytes of a kind.
 abbrev pub with_bytes : Ownership → List ℕ → Bundle → Bundle
-with_bytes Borrowed bs b = record { pairs = b.pairs; text = b.text ++ bs; given = b.given }
-with_bytes Owned bs b = record { pairs = b.pairs; text = b.text; given = b.given ++ bs }
+with_bytes Borrowed bs b = record b { text = b.text ++ bs }
+with_bytes Owned bs b = record b { given = b.given ++ bs }
 
 -- The bytes of a value, taken in.
 abbrev pub with_datum : Datum → Bundle → Bundle
@@ -69,7 +73,7 @@ next_value b (bytes o bs) = bytes_value o (next_span o bs b)
 
 -- One more pair.
 abbrev pub with_pair : Pair → Bundle → Bundle
-with_pair p b = record { pairs = b.pairs ++ (p ∷ []); text = b.text; given = b.given }
+with_pair p b = record b { pairs = b.pairs ++ (p ∷ []) }
 
 -- One more line.
 unfoldable pub with_entry : Bundle → Entry → Bundle
@@ -88,21 +92,8 @@ Roomy b = (length b.text ≤ 65536) × (length b.given ≤ 65536)
 abbrev pub GoodNext : Bundle → Entry → Type 0
 GoodNext b e = GoodEntry e × Roomy (with_entry b e)
 
--- The values as they are read.
-abbrev pub bundle_of : Values → Bundle
-bundle_of v = record { pairs = vec_items v.pairs; text = vec_items v.text; given = vec_items v.given }
-
--- A fault for which there is a reason in the bytes, if it is not for memory.
-abbrev pub Because : Type 0 → CallFault → Type 0
-Because P Malformed = P
-Because P Memory = Unit {0}
-
--- The fault where there is no memory.
-abbrev pub no_memory : CallFault
-no_memory = Memory
-
 -- The bytes were kept behind those of before, which are not too many, at this place.
-pub record Kept (before after : List ℕ) (bs : List ℕ) (span : Span) : Type 0 where
+pub record Kept (before after bs : List ℕ) (span : Span) : Type 0 where
   pub after_is : after ≡ before ++ bs
   pub span_is : span ≡ record { start = length before; len = length bs }
   pub roomy : length before + length bs ≤ 65536
@@ -111,20 +102,33 @@ pub record Kept (before after : List ℕ) (bs : List ℕ) (span : Span) : Type 0
 pub record TakenIn (before after : Bundle) (d : Datum) (v : SqliteBindValue) : Type 0 where
   pub value_is : v ≡ next_value before d
   pub after_is : after ≡ with_datum d before
-  pub roomy : Roomy (with_datum d before)
 
--- The value line in front of s, of k bytes, was taken in.
-pub record LineTaken (before after : Bundle) (s : List ℕ) (k : ℕ) : Type 0 where
+-- The value line in front of s was taken in; rest is what stands behind it.
+pub record LineTaken (before after : Bundle) (s rest : List ℕ) : Type 0 where
   pub entry : Entry
-  pub reads : Reads rendered_item (GoodNext before) s entry k
+  pub reads : Reads rendered_item (GoodNext before) s entry rest
   pub after_is : after ≡ with_entry before entry
 
--- At place p of s stand n value lines, which give b, and the next line begins at q.
-pub record ValuesRead (s : List ℕ) (p n q : ℕ) (b : Bundle) : Type 0 where
-  pub block : Block rendered_item GoodEntry s p n q
+-- s begins with n value lines, which give b; rest is what stands behind them.
+pub record ValuesRead (s : List ℕ) (n : ℕ) (b : Bundle) (rest : List ℕ) : Type 0 where
+  pub block : Block rendered_item GoodEntry s n rest
   pub gives : b ≡ with_entries no_values block.items
   pub roomy : Roomy b
 
--- At place p of s stand no n value lines whose bytes are not too many.
-abbrev pub NoLines : List ℕ → ℕ → ℕ → Type 0
-NoLines s p n = (es : List Entry) (rest : List ℕ) → length es ≡ n → AllByRecursion GoodEntry es → Roomy (with_entries no_values es) → drop p s ≢ flat_map rendered_item es ++ rest
+-- s begins with no n value lines whose bytes are not too many.
+abbrev pub NoLines : List ℕ → ℕ → Type 0
+NoLines s n =
+    (es : List Entry) (rest : List ℕ) → length es ≡ n → AllByRecursion GoodEntry es →
+    Roomy (with_entries no_values es) → s ≢ flat_map rendered_item es ++ rest
+
+-- The bytes of a fresh buffer; none where the one of before is kept.
+abbrev pub fresh_bytes : Option (Vec ℕ Global) → Option (List ℕ)
+fresh_bytes (Some v) = Some (vec_items v)
+fresh_bytes None = None
+
+-- The turn of a bind with such values: it lends their bytes and keeps the room.
+pub record BindTurn (query : ℕ) (b : Bundle) (t : Turn) : Type 0 where
+  pub asks : asked t.call ≡ bind query b.pairs
+  pub text : fresh_bytes t.lent.text ≡ Some b.text
+  pub given : fresh_bytes t.lent.given ≡ Some b.given
+  pub room : fresh_bytes t.lent.room ≡ None

@@ -1,14 +1,14 @@
 -- Calls: how their lines are written, what they may hold, and the turns that they make.
-use Rattle.std.specs.Prelude.{◌≡◌, ℕ, ◌+◌, ◌<◌, ◌≤◌, Bool, true, false, List, [], ◌∷◌, ◌++◌, map, length, drop, Some, None, vec_items, decimal, Option}
+use Rattle.std.specs.Prelude.{◌≡◌, ℕ, ◌<◌, ◌≤◌, Bool, true, false, List, [], ◌∷◌, ◌++◌, map, length, Some, None, decimal, Option}
 use Rattle.std.specs.List.{flat_map, AllByRecursion}
 use Rattle.runs.specs.Turns.{Asked, asked}
 use Rattle.runs.specs.Turns as run
-use Rattle.runs.specs.declared.turns.Lent.{Lent}
-use Rattle.runs.specs.declared.turns.Lent.TheVariants.{Fresh, Kept}
+use Rattle.runs.specs.declared.turns.Call.{Call}
+use Rattle.runs.specs.declared.turns.Call.TheVariants.{Bind, Execute, End}
 use Rattle.runs.specs.declared.turns.Turn.{Turn}
-use Rattle.sheet.specs.Lines.{Lacks}
+use Rattle.figures.specs.Reading.{Reads, Lacks}
 use Rattle.calls.specs.Items.{Entry, rendered_item, GoodEntry}
-use Rattle.calls.specs.Binds.{no_values, with_entries, Roomy}
+use Rattle.calls.specs.Binds.{no_values, with_entries, Roomy, fresh_bytes}
 
 -- A call as its lines give it: a bind for a query with its values, an execute, or an end.
 pub data Given : Type 0 where
@@ -32,13 +32,20 @@ call_letter (bind query es) = 98
 call_letter execute = 120
 call_letter end = 101
 
+-- The letter by which a turn's call is told.
+abbrev pub letter_of_call : Call → ℕ
+letter_of_call (Bind query pairs) = 98
+letter_of_call Execute = 120
+letter_of_call End = 101
+
 -- Query and count are at most 4,294,967,295.
 abbrev pub GoodHead : ℕ × ℕ → Type 0
 GoodHead h = (h.0 ≤ 4294967295) × (h.1 ≤ 4294967295)
 
 -- A good first line, good value lines, and at most 65,536 bytes of each kind.
 abbrev pub GoodCall : Given → Type 0
-GoodCall (bind query es) = GoodHead (query, length es) × AllByRecursion GoodEntry es × Roomy (with_entries no_values es)
+GoodCall (bind query es) =
+    GoodHead (query, length es) × AllByRecursion GoodEntry es × Roomy (with_entries no_values es)
 GoodCall execute = Unit {0}
 GoodCall end = Unit {0}
 
@@ -60,42 +67,37 @@ given_for (bind query es) = Some (with_entries no_values es).given
 given_for execute = None
 given_for end = None
 
--- The bytes of a fresh buffer; none where the one of before is kept.
-abbrev pub fresh_bytes : Lent → Option (List ℕ)
-fresh_bytes (Fresh v) = Some (vec_items v)
-fresh_bytes Kept = None
-
 -- The turn is that of the call.
 pub record TurnFor (g : Given) (t : Turn) : Type 0 where
   pub asks : asked t.call ≡ asked_for g
-  pub text : fresh_bytes t.text ≡ text_for g
-  pub given : fresh_bytes t.given ≡ given_for g
+  pub text : fresh_bytes t.lent.text ≡ text_for g
+  pub given : fresh_bytes t.lent.given ≡ given_for g
 
--- At place p of s stand the lines of a good call, whose turn this is, and the next line begins at q. The turn keeps the room.
-pub record TurnRead (s : List ℕ) (p q : ℕ) (t : Turn) : Type 0 where
+-- s begins with the lines of a good call, whose turn this is; rest is what stands behind them.
+-- The turn keeps the room.
+pub record TurnRead (s : List ℕ) (t : Turn) (rest : List ℕ) : Type 0 where
   pub call : Given
-  pub good : GoodCall call
-  pub begins : drop p s ≡ call_lines call ++ drop q s
-  pub size : q ≡ p + length (call_lines call)
-  pub within : q ≤ length s
+  pub reads : Reads call_lines GoodCall s call rest
   pub turn : TurnFor call t
-  pub room : fresh_bytes t.room ≡ None
+  pub room : fresh_bytes t.lent.room ≡ None
 
--- The turns of calls, one for each; the first lends the room, if there is one to lend, and the others keep it.
+-- The turns of calls, one for each; the first lends the room, if there is one to lend,
+-- and the others keep it.
 abbrev pub TurnsFor : Option (List ℕ) → List Given → List Turn → Type 0
 TurnsFor room [] [] = Unit {0}
 TurnsFor room [] (t ∷ ts) = ⊥
 TurnsFor room (g ∷ gs) [] = ⊥
-TurnsFor room (g ∷ gs) (t ∷ ts) = TurnFor g t × (fresh_bytes t.room ≡ room) × TurnsFor None gs ts
+TurnsFor room (g ∷ gs) (t ∷ ts) =
+    TurnFor g t × (fresh_bytes t.lent.room ≡ room) × TurnsFor None gs ts
 
 -- The bytes begin with the lines of good calls, whose letters and turns these are.
 -- If they are not malformed, nothing is left; else what is left begins with no good call.
-pub record CallsRead (s room letters : List ℕ) (turns : List Turn) (malformed : Bool) : Type 0 where
+pub record CallsRead (s room : List ℕ) (turns : List Turn) (malformed : Bool) : Type 0 where
   pub calls : List Given
   pub rest : List ℕ
   pub good : AllByRecursion GoodCall calls
   pub begins : s ≡ flat_map call_lines calls ++ rest
-  pub letters_are : letters ≡ map call_letter calls
+  pub letters_are : map (λ t. letter_of_call t.call) turns ≡ map call_letter calls
   pub turns_are : TurnsFor (Some room) calls turns
   pub whole : malformed ≡ false → rest ≡ []
   pub broken : malformed ≡ true → (0 < length rest) × Lacks call_lines GoodCall rest

@@ -1,17 +1,18 @@
 -- The value lines of a bind: what they hold, how they are written, and what is read from bytes.
-use Rattle.std.specs.Prelude.{◌≡◌, ℕ, ◌+◌, ◌^◌, ◌<◌, ◌≤◌, List, [], ◌∷◌, ◌++◌, length, take, drop, ℤ, decimal, ◌≢◌}
+use Rattle.std.specs.Prelude.{◌≡◌, ℕ, ◌^◌, ◌<◌, ◌≤◌, List, [], ◌∷◌, ◌++◌, length, ℤ, decimal, ◌≢◌}
 use Rattle.std.specs.Int.Signed.{mag}
 use Rattle.std.specs.Fmt.{signed_decimal}
 use Rattle.values.specs.Types.{type_number}
 use Rattle.values.specs.declared.SqliteType.{SqliteType}
-use Rattle.sheet.specs.Sheet.{piece_line, Numeric}
+use Rattle.figures.specs.Figures.{piece_line, Numeric}
 use Rattle.calls.specs.declared.items.Ownership.{Ownership}
 use Rattle.calls.specs.declared.items.Ownership.TheVariants.{Borrowed, Owned}
 use Rattle.calls.specs.declared.items.Item.{Item}
 use Rattle.calls.specs.declared.items.Content.{Content}
 use Rattle.calls.specs.declared.items.Content.TheVariants.{Null, I32, I64, F64, Text, Bytes}
 
--- A value: null, a 32-bit or a 64-bit number, a Double by its bit pattern, text or bytes, borrowed or owned.
+-- A value: null, a 32-bit or a 64-bit number, a Double by its bit pattern,
+-- text or bytes, borrowed or owned.
 pub data Datum : Type 0 where
   null : Datum
   int : ℤ → Datum
@@ -66,9 +67,12 @@ rendered_datum (bytes o bs) = piece_line bs
 
 -- `N 1`, `I 6 -5`, `L 7 -5`, `G 4 0`, `T 2 2 xy`, `t 2 2 xy`, `B 1 0 `, `c 1 0 `
 abbrev pub rendered_item : Entry → List ℕ
-rendered_item e = letter_of e.datum ∷ (32 ∷ (decimal (type_number e.tpe) ++ (stop_of e.datum ∷ rendered_datum e.datum)))
+rendered_item e =
+    letter_of e.datum ∷
+    (32 ∷ (decimal (type_number e.tpe) ++ (stop_of e.datum ∷ rendered_datum e.datum)))
 
--- What it may hold: signed 32-bit and 64-bit numbers, 64-bit patterns that are no NaN, at most 65,536 bytes.
+-- What it may hold: signed 32-bit and 64-bit numbers, 64-bit patterns that are no NaN,
+-- at most 65,536 bytes.
 abbrev pub GoodDatum : Datum → Type 0
 GoodDatum null = Unit {0}
 GoodDatum (int z) = mag z < 2 ^ 31
@@ -81,14 +85,9 @@ GoodDatum (bytes o bs) = length bs ≤ 65536
 abbrev pub GoodEntry : Entry → Type 0
 GoodEntry e = GoodDatum e.datum
 
--- A good value, other than null, that this letter asks for.
+-- A good value that this letter asks for.
 abbrev pub AskedBy : ℕ → Datum → Type 0
-AskedBy letter null = ⊥
-AskedBy letter (int z) = (73 ≡ letter) × GoodDatum (int z)
-AskedBy letter (long z) = (76 ≡ letter) × GoodDatum (long z)
-AskedBy letter (double bits) = (71 ≡ letter) × GoodDatum (double bits)
-AskedBy letter (text o bs) = (text_letter o ≡ letter) × GoodDatum (text o bs)
-AskedBy letter (bytes o bs) = (bytes_letter o ≡ letter) × GoodDatum (bytes o bs)
+AskedBy letter d = (letter_of d ≡ letter) × GoodDatum d
 
 -- s begins with no declared type and the byte `stop`.
 abbrev pub NoType : ℕ → List ℕ → Type 0
@@ -98,33 +97,15 @@ NoType stop s = (t : SqliteType) (rest : List ℕ) → s ≢ decimal (type_numbe
 abbrev pub NoSmall : List ℕ → Type 0
 NoSmall s = (z : ℤ) (rest : List ℕ) → mag z < 2 ^ 31 → s ≢ signed_decimal z ++ (10 ∷ rest)
 
--- What a content stands for in the bytes that it was read from.
-abbrev pub datum_of : List ℕ → Content → Datum
-datum_of s Null = null
-datum_of s (I32 z) = int z
-datum_of s (I64 z) = long z
-datum_of s (F64 bits) = double bits
-datum_of s (Text o p) = text o (take p.len (drop p.from s))
-datum_of s (Bytes o p) = bytes o (take p.len (drop p.from s))
+-- What a content stands for.
+abbrev pub datum_of : Content → Datum
+datum_of Null = null
+datum_of (I32 z) = int z
+datum_of (I64 z) = long z
+datum_of (F64 bits) = double bits
+datum_of (Text o bs) = text o bs.now
+datum_of (Bytes o bs) = bytes o bs.now
 
 -- What an item stands for.
-abbrev pub entry_of : List ℕ → Item → Entry
-entry_of s i = record { tpe = i.tpe; datum = datum_of s i.content }
-
--- The bytes lie inside so many.
-abbrev pub ContentWithin : ℕ → Content → Type 0
-ContentWithin n Null = Unit {0}
-ContentWithin n (I32 z) = Unit {0}
-ContentWithin n (I64 z) = Unit {0}
-ContentWithin n (F64 b) = Unit {0}
-ContentWithin n (Text o p) = p.from + p.len ≤ n
-ContentWithin n (Bytes o p) = p.from + p.len ≤ n
-
--- Where the bytes begin, so much further on.
-abbrev pub moved_by : ℕ → Content → ℕ
-moved_by by Null = by
-moved_by by (I32 z) = by
-moved_by by (I64 z) = by
-moved_by by (F64 b) = by
-moved_by by (Text o p) = p.from + by
-moved_by by (Bytes o p) = p.from + by
+abbrev pub entry_of : Item → Entry
+entry_of i = record { tpe = i.tpe; datum = datum_of i.content }

@@ -1,14 +1,14 @@
 -- A figure in front of bytes against the run of digits there; figures, pieces and signed figures are read in one way.
-use Rattle.std.proofs.Common.{◌≡◌, ℕ, suc, ◌+◌, ◌-◌, ◌*◌, ◌^◌, ◌<◌, ◌≤◌, List, [], ◌∷◌, ◌++◌, length, get_or, take, drop, ℤ, pos, negsuc, decimal, sym, refl, ap, ◌∙◌, ⊎_elim, add-one, arith, length-append, rules}
+use Rattle.std.proofs.Common.{◌≡◌, ℕ, suc, ◌+◌, ◌-◌, ◌*◌, ◌^◌, ◌<◌, ◌≤◌, List, [], ◌∷◌, ◌++◌, length, get_or, take, drop, ℤ, pos, negsuc, decimal, sym, refl, ap, ◌∙◌, ⊎_elim, arith, length-append, rules}
 use lib.Signed.{mag}
 use Rattle.std.specs.Int.{IsInRange}
 use Rattle.std.specs.Fmt.{signed_decimal}
 use Rattle.std.proofs.lemmas.Str.Parse.{IsNumeralModel, numerals_by_fold, tells_by_index, digits_value_short}
 use Rattle.std.proofs.lemmas.Fmt.{decimal_digit, digits_decimal, digits_value-decimal, decimal_nonempty, first_decimal, decimal-digits_value, length-decimal-le}
-use Rattle.std.proofs.lemmas.List.{get_or_at, get_or-take, length-take-le, take-append-drop, drop_more, take_more, take_at, append_cancel_left, length-drop, get_or-drop, drop-drop, drop_at, get_or_append_left}
+use Rattle.std.proofs.lemmas.List.{get_or_at, get_or-take, length-take-le, take-append-drop, take_rest, drop_more, take_more, take_at, append_cancel_left, get_or-drop, drop_at, get_or_append_left}
 use Rattle.std.proofs.lemmas.List.Prefix.{front_reads}
 use Rattle.std.proofs.lemmas.Bool.{cases_lt}
-use Rattle.figures.specs.Figures.{stop_byte, read_on, Run, Figured, Pieced, Numbered}
+use Rattle.figures.specs.Figures.{stop_byte, read_on, Run, Figured, NoFigure, NoPiece, NoNumber}
 use Rattle.figures.specs.declared.Stop.{Stop}
 use Rattle.figures.specs.declared.Stop.TheVariants.{Space, Line}
 
@@ -111,7 +111,15 @@ seen s rest n i stop m low big r e =
     let z = front_reads 0 s ds (stop ∷ rest) e 0 some in
     record { value = v; some = omega arith; inside = omega arith; stop_is = g; plain = λ p. omega (arith, first_is m big (omega arith)) }
 
-pub figured : (s : List ℕ) (n i stop most : ℕ) → Run s n i → most < 2 ^ 64 → 0 < i → i < length s → (get_or s 0 0 ≡ 48 → i ≤ 1) → n ≤ most → get_or s i 0 ≡ stop → Figured stop most s n (i + 1)
+-- no figure stands in front where what one would say of the run of digits is not so
+pub no_figure : (s : List ℕ) (n i stop most : ℕ) → stop < 48 → most < 2 ^ 64 → Run s n i → ((m : ℕ) → Seen s n i stop m → m ≤ most → ⊥) → NoFigure stop most s
+no_figure s n i stop most low small r not m rest h e = not m (seen s rest n i stop m low (omega arith) r e) h
+
+-- the first byte behind the run of digits
+pub behind : (s : List ℕ) (i : ℕ) → get_or (take (length s - i) (drop i s)) 0 0 ≡ get_or s i 0
+behind s i = let a : i + 0 ≡ i = omega arith in ap (λ l. get_or l 0 0) (take_rest s i) ∙ (get_or-drop i s 0 0 ∙ ap (λ k. get_or s k 0) a)
+
+pub figured : (s : List ℕ) (n i stop most : ℕ) → Run s n i → most < 2 ^ 64 → 0 < i → i < length s → (get_or s 0 0 ≡ 48 → i ≤ 1) → n ≤ most → get_or s i 0 ≡ stop → Figured stop most s n (drop 1 (drop i s))
 figured s n i stop most r small some inside plain le is =
     let w = r.within in
     let l = length-take-le i s w in
@@ -122,33 +130,20 @@ figured s n i stop most r small some inside plain le is =
     let e : decimal n ≡ take i s = ap decimal v ∙ d in
     let a = take-append-drop i s in
     let m = drop_more s i 0 inside in
-    record { small = le; begins = cc; long = omega (arith, ap length e); within = omega arith }
+    let t = ap (drop 1) m in
+    record { small = le; begins = cc }
 
-pub record PieceSeen (s bs : List ℕ) (n from : ℕ) : Type 0 where
-  pub len : n ≡ length bs
-  pub inside : from + n < length s
-  pub stop_is : get_or s (from + n) 0 ≡ 10
+-- behind the figure of a piece stand its bytes and the end of the line
+pub piece_seen : (s bs rest behind : List ℕ) (most n : ℕ) → most < 2 ^ 64 → Figured 32 most s n behind → length bs ≤ most → s ≡ decimal (length bs) ++ (32 ∷ (bs ++ (10 ∷ rest))) → (n ≡ length bs) × (behind ≡ bs ++ (10 ∷ rest))
+piece_seen s bs rest behind most n small f h e =
+    let same = figure_free n (length bs) 32 32 behind (bs ++ (10 ∷ rest)) (omega (arith, f.small)) (omega arith) (omega arith) (omega arith) (sym f.begins ∙ e) in
+    (same.figures, same.rests)
 
-pub piece_seen : (s bs rest : List ℕ) (most n from : ℕ) → most < 2 ^ 64 → Figured 32 most s n from → length bs ≤ most → s ≡ decimal (length bs) ++ (32 ∷ (bs ++ (10 ∷ rest))) → PieceSeen s bs n from
-piece_seen s bs rest most n from small f h e =
-    let same = figure_free n (length bs) 32 32 (drop from s) (bs ++ (10 ∷ rest)) (omega arith) (omega arith) (omega arith) (omega arith) (sym f.begins ∙ e) in
-    let l = ap length same.rests ∙ length-append bs (10 ∷ rest) in
-    let d = length-drop from s in
-    let g = ap (λ l. get_or l n 0) same.rests ∙ get_or_at bs 10 rest 0 n (sym same.figures) in
-    let k = get_or-drop from s n 0 in
-    record { len = same.figures; inside = omega arith; stop_is = omega arith }
-
-pub pieced : (s : List ℕ) (least most n from : ℕ) → Figured 32 most s n from → least ≤ n → from + n < length s → get_or s (from + n) 0 ≡ 10 → Pieced least most s from n
-pieced s least most n from f low inside is =
-    let d = length-drop from s in
-    let t = take-append-drop n (drop from s) in
-    let m = drop_more (drop from s) n 0 (omega arith) in
-    let k = get_or-drop from s n 0 in
-    let dd = drop-drop (n + 1) from s in
-    let a : from + (n + 1) ≡ from + n + 1 = omega arith in
-    let b = f.begins in
-    let z : get_or (drop from s) n 0 ≡ 10 = k ∙ is in
-    record { low = low; high = f.small; exact = length-take-le n (drop from s) (omega arith); begins = cc; fore = f.long; within = inside }
+-- no piece stands in front where what one would say of the bytes behind its length is not so
+pub no_piece : (s after : List ℕ) (least most n : ℕ) → most < 2 ^ 64 → Figured 32 most s n after → ((bs rest : List ℕ) → n ≡ length bs → after ≡ bs ++ (10 ∷ rest) → least ≤ length bs → ⊥) → NoPiece least most s
+no_piece s after least most n small f not bs rest low high e =
+    let p = piece_seen s bs rest after most n small f high e in
+    not bs rest p.0 p.1 low
 
 digit_first : (n : ℕ) (rest : List ℕ) → n < 2 ^ 64 → 48 ≤ get_or (decimal n ++ rest) 0 0
 digit_first n rest h =
@@ -161,15 +156,9 @@ pub minus_seen : (s rest : List ℕ) (stop : ℕ) (z : ℤ) → mag z < 2 ^ 63 �
 minus_seen s rest stop (pos n) h is e = let d = digit_first n (stop ∷ rest) (omega arith) in absurd (omega (arith, ap (λ l. get_or l 0 0) e))
 minus_seen s rest stop (negsuc n) h is e = (suc n, omega arith, omega arith, ap (drop 1) e)
 
-pub minus_numbered : (s : List ℕ) (stop m k : ℕ) → 0 < length s → get_or s 0 0 ≡ 45 → 0 < m → Figured stop (2 ^ 63) (drop 1 s) m k → Numbered stop s (negsuc (m - 1)) (k + 1)
-minus_numbered [] stop m k some is pos-m f = absurd (omega arith)
-minus_numbered (x ∷ xs) stop m k some is pos-m f =
-    let b = f.begins in
-    let a : suc (m - 1) ≡ m = omega arith in
-    let q = ap decimal a in
-    let w = ap length q in
-    let e : x ∷ xs ≡ 45 ∷ (decimal (suc (m - 1)) ++ (stop ∷ drop k xs)) = cc in
-    record { small = omega arith; begins = rw add-one e; long = omega arith; within = omega arith }
+-- no signed figure stands in front behind a minus where what one would say of the figure there is not so
+pub no_minus : (s : List ℕ) (stop : ℕ) → get_or s 0 0 ≡ 45 → ((m : ℕ) (rest : List ℕ) → 0 < m → m ≤ 2 ^ 63 → drop 1 s ≡ decimal m ++ (stop ∷ rest) → ⊥) → NoNumber stop s
+no_minus s stop is not z rest h e = let f = minus_seen s rest stop z h is e in not f.0 rest f.1 f.2 f.3
 
 -- a piece, and a signed figure, are read in one way
 pub piece_free : (b d r t : List ℕ) → length b < 2 ^ 64 → length d < 2 ^ 64 → decimal (length b) ++ (32 ∷ (b ++ (10 ∷ r))) ≡ decimal (length d) ++ (32 ∷ (d ++ (10 ∷ t))) → (b ≡ d) × (r ≡ t)
@@ -182,16 +171,6 @@ piece_free b d r t hb hd e =
     let v = drop_at d (10 ∷ t) (length b) (sym same.figures) in
     let w : 10 ∷ r ≡ 10 ∷ t = sym u ∙ (ap (drop (length b)) x ∙ v) in
     (sym p ∙ (ap (take (length b)) x ∙ q), cc)
-
-pub pieced_is : (s b rest : List ℕ) (least most from len : ℕ) → most < 2 ^ 64 → Pieced least most s from len → length b ≤ most → s ≡ decimal (length b) ++ (32 ∷ (b ++ (10 ∷ rest))) → b ≡ take len (drop from s)
-pieced_is s b rest least most from len small p h e =
-    let part = take len (drop from s) in
-    let d = ap decimal p.exact in
-    let g = p.begins in
-    let x = p.exact in
-    let y = p.high in
-    let f : decimal (length b) ++ (32 ∷ (b ++ (10 ∷ rest))) ≡ decimal (length part) ++ (32 ∷ (part ++ (10 ∷ drop (from + len + 1) s))) = cc in
-    (piece_free b part rest (drop (from + len + 1) s) (omega arith) (omega arith) f).0
 
 pub number_free : (y z : ℤ) (stop : ℕ) (r t : List ℕ) → stop < 48 → mag y < 2 ^ 63 → mag z < 2 ^ 63 → signed_decimal y ++ (stop ∷ r) ≡ signed_decimal z ++ (stop ∷ t) → (y ≡ z) × (r ≡ t)
 number_free (pos m) (pos n) stop r t low hy hz e =

@@ -6,15 +6,17 @@ ghost use Rattle.host.specs.Slots.{within, part_bytes, slot_of, slot_length};
 ghost use Rattle.host.specs.Meaning.{Meaning, bind_answer, bind_after, reset_after, step_answer, step_after, fault_code};
 ghost use Rattle.host.specs.Sound.{Sound};
 
-// The buffer that a part lies in: the text or the room (the caller's buffer that owned values are copied into).
-#[derive(Clone, Copy)]
+// The buffer that a part lies in: the text or the room, the caller's buffer that owned values are
+// copied into.
+#[derive(Clone, Copy, PartialEq, Eq, Debug)]
 pub enum Source {
     Text,
     Room,
 }
 
-// A stretch of one of the two buffers.
-#[derive(Clone, Copy)]
+// A stretch of one of the two buffers. A slot holds this and no slice, since the buffers are lent
+// anew at each step.
+#[derive(Clone, Copy, PartialEq, Eq, Debug)]
 pub struct Part {
     pub source: Source,
     pub start: usize,
@@ -22,7 +24,7 @@ pub struct Part {
 }
 
 // What a parameter is bound to. A Double is held by its bit pattern.
-#[derive(Clone, Copy)]
+#[derive(Clone, Copy, PartialEq, Eq, Debug)]
 pub enum Slot {
     Null,
     Long(i64),
@@ -49,12 +51,12 @@ pub enum HostValue<'a> {
     Blob(Part),
 }
 
-// Why a bind is refused.
-#[derive(Clone, Copy)]
+// Why a bind is refused, with SQLite's number for it.
+#[derive(Clone, Copy, PartialEq, Eq, Debug)]
 pub enum BindFault {
-    Misuse,
-    Range,
-    TooBig,
+    Misuse = 21,
+    Range = 25,
+    TooBig = 18,
 }
 
 impl BindFault {
@@ -62,23 +64,19 @@ impl BindFault {
     pub fn code(self) -> u32
         ensures { result ≡ fault_code self }
     {
-        match self {
-            BindFault::Misuse => 21,
-            BindFault::Range => 25,
-            BindFault::TooBig => 18,
-        }
+        self as u32
     }
 }
 
 // A step that gave no failure.
-#[derive(Clone, Copy)]
+#[derive(Clone, Copy, PartialEq, Eq, Debug)]
 pub enum Stepped {
     Row,
     Done,
 }
 
 // A step's failure, with the host's code.
-#[derive(Clone, Copy)]
+#[derive(Clone, Copy, PartialEq, Eq, Debug)]
 pub struct StepFault {
     pub code: u32,
 }
@@ -87,11 +85,9 @@ pub struct StepFault {
 fn part_of(s: &[u8], start: usize, len: usize) -> &[u8]
     ensures { result.now ≡ within s.now start len }
 {
-    if start <= s.len() && len <= s.len() - start {
-        &s[start..start + len]
-    } else {
-        &s[0..0]
-    }
+    s.get(start..)
+        .and_then(|rest| rest.get(..len))
+        .unwrap_or(&[])
 }
 
 impl Part {
@@ -112,8 +108,7 @@ impl Slot {
         ensures { result ≡ slot_length self.now }
     {
         match *self {
-            Slot::Text(part) => part.len,
-            Slot::Blob(part) => part.len,
+            Slot::Text(part) | Slot::Blob(part) => part.len,
             _ => 0,
         }
     }
@@ -125,21 +120,18 @@ impl<'a> HostValue<'a> {
     {
         Self::Null
     }
+}
 
-    // The slot that the value stands for; a Double that is not a number is null.
-    pub fn slot(&self) -> Slot
-        ensures { result ≡ slot_of self.now }
-    {
-        match *self {
+// The slot that a value stands for; a Double that is not a number is null.
+impl<'a> From<HostValue<'a>> for Slot {
+    ghost from_gives = { λ v s. s ≡ slot_of v };
+
+    fn from(value: HostValue<'a>) -> Slot {
+        match value {
             HostValue::Null => Slot::Null,
             HostValue::Long(n) => Slot::Long(n),
-            HostValue::Double(x) => {
-                if x.is_nan() {
-                    Slot::Null
-                } else {
-                    Slot::Double(std::num::f64_to_bits_with_nan(x))
-                }
-            }
+            HostValue::Double(x) if x.is_nan() => Slot::Null,
+            HostValue::Double(x) => Slot::Double(std::num::f64_to_bits_with_nan(x)),
             HostValue::Text(t) => Slot::Text(Part {
                 source: t.source,
                 start: t.start,
@@ -153,10 +145,6 @@ impl<'a> HostValue<'a> {
 pub trait Host {
     ghost meaning: { Self → Meaning };
 
-    // Shows what is so of every host, in every state. It does nothing: its contract is the fact.
-    fn laws(&self)
-        ensures { Sound (meaning self.now) };
-
     fn parameter_count(&self) -> usize
         ensures { result ≡ (meaning self.now).params };
 
@@ -165,18 +153,22 @@ pub trait Host {
 
     // The name of a column, counted from 0.
     fn column_name(&self, index: usize) -> Option<&[u8]>
-        ensures { MatchOption result (length (meaning self.now).names ≤ index) (λ b. (index < length (meaning self.now).names) × (b.now ≡ slice_index_or (meaning self.now).names index [])) };
+        ensures { MatchOption result (length (meaning self.now).names ≤ index)
+            (λ b. (index < length (meaning self.now).names) ×
+            (b.now ≡ slice_index_or (meaning self.now).names index [])) };
 
     // Binds a slot, counted from 1.
     fn bind(&mut self, index: usize, value: HostValue<'_>) -> Result<(), BindFault>
         ensures answer { result ≡ bind_answer (meaning self.old) index (slot_of value.entry) }
-        ensures after { meaning self.new ≡ bind_after (meaning self.old) index (slot_of value.entry) };
+        ensures after { meaning self.new ≡
+            bind_after (meaning self.old) index (slot_of value.entry) };
 
     // Puts the program at its start.
     fn reset(&mut self)
         ensures { meaning self.new ≡ reset_after (meaning self.old) };
 
-    // One step of the program, on the bytes that are lent to it.
+    // One step of the program, on the bytes that are lent to it. Text and room are two slices: as
+    // one struct, clauses would name them by way of it, and a caller lends the room to write in.
     fn step(&mut self, text: &[u8], room: &[u8]) -> Result<Stepped, StepFault>
         ensures answer { result ≡ step_answer (meaning self.old) text.now room.now }
         ensures after { meaning self.new ≡ step_after (meaning self.old) text.now room.now };
@@ -184,4 +176,7 @@ pub trait Host {
     // The code of the latest bind or step.
     fn code(&self) -> u32
         ensures { result ≡ (meaning self.now).code };
+
+    // What is so of every host, in every state.
+    ghost laws: { (x : Self) → Sound (meaning x) };
 }

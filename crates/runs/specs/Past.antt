@@ -1,5 +1,5 @@
 -- What a whole run keeps, told from the calls, what was lent at them, and their answers' numbers and figures.
-use Rattle.std.specs.Prelude.{◌≡◌, ℕ, ◌+◌, ◌-◌, Bool, true, false, cond, ◌||◌, List, [], ◌∷◌, ◌++◌, map, length, take, drop, replicate, ◌==◌}
+use Rattle.std.specs.Prelude.{◌≡◌, ℕ, ◌+◌, ◌-◌, Bool, true, false, cond, ◌||◌, List, [], ◌∷◌, ◌++◌, map, length, take, drop, replicate, ◌==◌, Result}
 use Rattle.values.specs.Value.{Value}
 use Rattle.host.specs.Outcome.{Outcome, row, done, failed}
 use Rattle.host.specs.Slots.{slot_value}
@@ -8,6 +8,7 @@ use Rattle.host.specs.declared.Source.{Source}
 use Rattle.host.specs.declared.Source.TheVariants as source
 use Rattle.host.specs.declared.Slot.{Slot}
 use Rattle.host.specs.declared.Slot.TheVariants as slot
+use Rattle.binds.specs.declared.refusal.Refusal.{Refusal}
 use Rattle.binds.specs.Pairs.{Pair, slot_for, owned_span, span_length}
 use Rattle.statement.specs.State.{State}
 use Rattle.runs.specs.Turns.{Asked, bind, execute, end, asked, Desk, lent_at, At, turn_goes, answer_number, answer_figures}
@@ -18,14 +19,14 @@ use Rattle.runs.specs.declared.turns.Answer.{Answer}
 pub record Turned : Type 0 where
   pub asks : Asked
   pub lent : Desk
-  pub answer : Answer
+  pub answer : Result Answer Refusal
 
 -- The turns so far, the latest first.
 abbrev pub Past : Type 0
 Past = List Turned
 
 -- The past after more turns and their answers; the buffers lent at each are as they then stood.
-unfoldable pub past_of : At → Past → List Turn → List Answer → Past
+unfoldable pub past_of : At → Past → List Turn → List (Result Answer Refusal) → Past
 past_of a h [] rs = h
 past_of a h (t ∷ ts) [] = h
 past_of a h (t ∷ ts) (r ∷ rs) = past_of (turn_goes a t) (record { asks = asked t.call; lent = lent_at t a.desk; answer = r } ∷ h) ts rs
@@ -178,11 +179,11 @@ step_figure done = 2
 step_figure (failed c) = c
 
 -- A step was answered as the program has it, at the place reached there, on the slots and the bytes lent to it.
-abbrev pub RightStep : Outcome → Answer → Type 0
+abbrev pub RightStep : Outcome → Result Answer Refusal → Type 0
 RightStep o r = (answer_number r ≡ step_number o) × ((answer_figures r).0 ≡ step_figure o)
 
 -- Only a step is answered out of the program.
-abbrev pub RightBy : Event → Outcome → Answer → Type 0
+abbrev pub RightBy : Event → Outcome → Result Answer Refusal → Type 0
 RightBy (bound ps n) o r = Unit {0}
 RightBy (undone ps z) o r = Unit {0}
 RightBy (stepped n) o r = RightStep o r

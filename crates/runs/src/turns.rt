@@ -14,42 +14,38 @@ pub enum Call {
     End,
 }
 
-// A buffer that is lent at a turn: a fresh one, or the one of before as the last call left it.
+// The three buffers of a call: what is lent in each, or what is kept in each between two turns.
 #[derive(Drop)]
-pub enum Lent {
-    Fresh(Vec<u8>),
-    Kept,
+pub struct Buffers<B> {
+    pub text: B,
+    pub given: B,
+    pub room: B,
 }
 
-// A call with its buffers. The text that is kept is that of the last accepted bind.
+// A call with what is lent at it: each buffer is a fresh one or, at `None`, the one of before
+// as the last call left it. The text that is kept is that of the last accepted bind.
 #[derive(Drop)]
 pub struct Turn {
     pub call: Call,
-    pub text: Lent,
-    pub given: Lent,
-    pub room: Lent,
+    pub lent: Buffers<Option<Vec<u8>>>,
 }
 
-#[derive(Clone, Copy)]
+// What a call answers that is not refused.
+#[derive(Clone, Copy, PartialEq, Eq, Debug)]
 pub enum Answer {
     Bound(usize),
     Executed(Executed),
     Ended(usize),
-    Refused(Refusal),
 }
 
-// The buffers between two turns.
-#[derive(Drop)]
-pub struct Buffers {
-    pub text: Vec<u8>,
-    pub given: Vec<u8>,
-    pub room: Vec<u8>,
-}
+// What a call is answered: its answer, or why it is refused.
+pub type Reply = Result<Answer, Refusal>;
 
-// A list of turns once it is performed: the answers in order, the statement and the buffers as they stand.
+// A list of turns once it is performed: the answers in order, and the statement and the buffers
+// as they stand.
 #[derive(Drop)]
 pub struct Performed<X> {
-    pub answers: Vec<Answer>,
+    pub answers: Vec<Reply>,
     pub statement: Statement<X>,
-    pub buffers: Buffers,
+    pub buffers: Buffers<Vec<u8>>,
 }

@@ -1,1 +1,1 @@
-pub mod Hosted
+pub mod Played

@@ -1,3 +1,3 @@
-pub mod Fine
 pub mod Program
 pub mod Scripted
+pub mod Laws

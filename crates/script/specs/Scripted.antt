@@ -1,10 +1,11 @@
 -- What a script host stands for.
-use Rattle.std.specs.Prelude.{take}
 use Rattle.host.specs.Meaning.{Meaning}
 use Rattle.sheet.specs.Decode.{sheet_at}
 use Rattle.script.specs.Program.{script_meaning, row_at}
 use Rattle.script.specs.declared.player.ScriptHost.{ScriptHost}
 
--- The sheet is decoded from its bytes; of its table of slots the first ones count.
+-- The sheet is decoded from its bytes.
 abbrev pub meaning_of : ScriptHost → Meaning
-meaning_of h = script_meaning (sheet_at h.bytes.now) (take h.parameters h.slots) h.index h.stepped (row_at h.bytes.now h.columns h.row) h.byte_limit h.code
+meaning_of h =
+    script_meaning (sheet_at h.sheet.bytes.now) h.slots h.index h.stepped
+    (row_at h.sheet.columns h.row) h.byte_limit h.code

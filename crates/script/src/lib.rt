@@ -1,5 +1,4 @@
 // The script host: it plays the outcomes of a sheet in order.
 #![tactic(auto)]
 
-pub mod moves;
 pub mod player;

@@ -5,7 +5,8 @@ use Rattle.std.proofs.lemmas.Bool.{cases_order}
 use Rattle.sheet.proofs.Moves.{together_append}
 use Rattle.sheet.specs.Sheet.{Sheet, render, together, Holds, Begins, Exclusive}
 
-cut : (n : ℕ) (ls : List (List ℕ)) (rest : List ℕ) → together ls ++ rest ≡ together (take n ls) ++ (together (drop n ls) ++ rest)
+cut : (n : ℕ) (ls : List (List ℕ)) (rest : List ℕ) →
+    together ls ++ rest ≡ together (take n ls) ++ (together (drop n ls) ++ rest)
 cut n ls rest =
     let a = ap together (take-append-drop n ls) in
     let b = together_append (take n ls) (drop n ls) in
@@ -13,7 +14,8 @@ cut n ls rest =
     cc
 
 whole_begins : (s : List ℕ) (x : Sheet) (n : ℕ) → Holds s x → Begins s n
-whole_begins s x n h = record { sheet = x; good = h.good; rest = together (drop n (render x)) ++ h.rest; begins = h.begins ∙ cut n (render x) h.rest }
+whole_begins s x n h =
+    record { sheet = x; good = h.good; rest = together (drop n (render x)) ++ h.rest; begins = h.begins ∙ cut n (render x) h.rest }
 
 fewer_begin : (s : List ℕ) (m n : ℕ) → n ≤ m → Begins s m → Begins s n
 fewer_begin s m n l b =

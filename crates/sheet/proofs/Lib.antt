@@ -3,6 +3,6 @@ pub mod Moves
 pub mod Runs
 pub mod Whole
 pub mod Decoded
-pub mod Reached
 pub mod Exclude
+pub mod Reached
 pub mod Standing

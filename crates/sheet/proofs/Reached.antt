@@ -1,211 +1,227 @@
 -- From what the reader's methods say to acceptance and refusal.
-use Rattle.std.proofs.Common.{◌≡◌, ℕ, ◌+◌, ◌-◌, ◌<◌, ◌≤◌, Bool, false, List, [], ◌∷◌, ◌++◌, map, length, drop, IsErrAnd, Ok, Err, Result, sym, refl, ap, ◌∙◌, subst, ⊎_elim, append_assoc, arith, length-append, length-drop, MatchResult}
+use Rattle.std.proofs.Common.{◌≡◌, ℕ, ◌+◌, ◌-◌, ◌<◌, ◌≤◌, Bool, false, List, [], ◌∷◌, ◌++◌, map, length, sym, refl, ap, ◌∙◌, subst, ⊎_elim, append_assoc, arith, length-append}
 use Rattle.std.specs.List.{flat_map, AllByRecursion}
 use Rattle.std.proofs.lemmas.List.{length-map}
-use Rattle.values.specs.Value.{Value}
+use Rattle.std.proofs.lemmas.List.Folds.{flat_map-map}
+use Rattle.std.proofs.lemmas.Grind.{flat_map-append}
+use Rattle.figures.specs.Reading.{Lacks, Block}
 use Rattle.sheet.proofs.Runs.{Line, name, param, value, head, written, Left, left, more, Fits, Runs, runs_append, heads, names_run, params_run, values_run, outcomes_run}
-use Rattle.sheet.proofs.Whole.{begin, refused, refused_first, joined_append, written_outcomes, together_map}
+use Rattle.sheet.proofs.Whole.{begin, heading_same, refused, refused_first, written_outcomes}
 use Rattle.sheet.proofs.Decoded.{sheet_at_lem, render_bytes}
-use Rattle.sheet.specs.Sheet.{Sheet, heading_of, rendered_heading, rendered_name, rendered_param, rendered_value, row_line, outcome_lines, render, together, GoodHeading, GoodName, GoodParam, GoodValue, GoodOutcome, Suits, names_column, WellFormed, Holds, RefusedAt}
-use Rattle.sheet.specs.Lines.{Lacks, Moved, Stuck, Block, Breaks, rendered_head, GoodHead, Outcomes, OutcomesBreak, Ended}
+use Rattle.sheet.specs.Sheet.{Sheet, rendered_heading, rendered_name, rendered_param, rendered_value, row_line, outcome_lines, together, render, GoodHeading, GoodName, GoodParam, GoodValue, GoodOutcome, Suits, names_column, WellFormed, Holds, RefusedAt, body_lines}
+use Rattle.sheet.specs.Decode.{sheet_at}
+use Rattle.sheet.specs.Lines.{Moved, Stuck, Breaks, rendered_head, GoodHead, Outcomes, OutcomesBreak, Ended}
 use Rattle.sheet.specs.Places.{Accepted}
 use Rattle.sheet.specs.declared.lines.Heading.{Heading}
 use Rattle.sheet.specs.declared.lines.Head.TheVariants.{Row}
 
--- The heading and some lines were read; state l is reached at place p, where line n begins.
-record Reached (s : List ℕ) (h : Heading) (l : Left) (p n : ℕ) : Type 0 where
+-- The heading and some lines were read of s; state l is reached at the bytes t, where line n begins.
+pub record Reached (s : List ℕ) (h : Heading) (l : Left) (t : List ℕ) (n : ℕ) : Type 0 where
   good : GoodHeading h
   lines : List Line
   runs : Runs h.columns (more (begin h)) lines (more l)
-  begins : s ≡ rendered_heading h ++ (flat_map written lines ++ drop p s)
+  begins : s ≡ rendered_heading h ++ (flat_map written lines ++ t)
   count : n ≡ length lines + 2
 
-reached_start : (s : List ℕ) (h : Heading) (p n : ℕ) → Moved rendered_heading GoodHeading s 0 1 h p n → Reached s h (begin h) p n
-reached_start s h p n m = let i = m.line in record { good = m.good; lines = []; runs = refl; begins = m.begins; count = omega arith }
-
-reached_on : (s : List ℕ) (h : Heading) (l : Left) (p n : ℕ) (ys : List Line) (k : Left) (q m : ℕ) → Reached s h l p n → Runs h.columns (more l) ys (more k) → drop p s ≡ flat_map written ys ++ drop q s → m ≡ n + length ys → Reached s h k q m
-reached_on s h l p n ys k q m x r e is =
-    let b = x.begins in
-    let j = joined_append x.lines ys in
-    let a = append_assoc (flat_map written x.lines) (flat_map written ys) (drop q s) in
-    let la = length-append x.lines ys in
-    let c = x.count in
+reached_on : {s t : List ℕ} {h : Heading} {l : Left} {n : ℕ} (ys : List Line) {k : Left}
+    {u : List ℕ} {m : ℕ} →
+    Reached s h l t n → Runs h.columns (more l) ys (more k) → t ≡ flat_map written ys ++ u →
+    m ≡ n + length ys → Reached s h k u m
+reached_on {h = h} {l = l} ys {k = k} {u = u} x r e is =
+    let j = flat_map-append written x.lines ys in
+    let a = append_assoc (flat_map written x.lines) (flat_map written ys) u in
     record {
       good = x.good;
       lines = x.lines ++ ys;
       runs = runs_append h.columns (more (begin h)) (more l) (more k) x.lines ys x.runs r;
-      begins = cc;
-      count = omega arith;
+      begins = cc (x.begins);
+      count = omega (arith, x.count, length-append x.lines ys);
     }
 
-reached_refused : (s : List ℕ) (h : Heading) (l : Left) (p n bad : ℕ) → Reached s h l p n → Lacks written (Fits h.columns l) (drop p s) → bad ≡ n → RefusedAt s bad
-reached_refused s h l p n bad x f e =
-    subst (λ z. RefusedAt s z) (sym (e ∙ x.count)) (refused h s (drop p s) x.lines l x.good x.runs x.begins f)
+reached_refused : {s t : List ℕ} {h : Heading} {l : Left} {n bad : ℕ} → Reached s h l t n →
+    Lacks written (Fits h.columns l) t → bad ≡ n → RefusedAt s bad
+reached_refused {s = s} {t = t} {h = h} {l = l} x f e =
+    subst (λ z. RefusedAt s z) (sym (e ∙ x.count)) (refused h s t x.lines l x.good x.runs x.begins f)
 
 -- Which lines may come.
-only_names : (c n p v : ℕ) (b : Bool) (s : List ℕ) → 0 < n → Lacks rendered_name GoodName s → Lacks written (Fits c (left n p v b)) s
+only_names : (c n p v : ℕ) (b : Bool) (s : List ℕ) → 0 < n → Lacks rendered_name GoodName s →
+    Lacks written (Fits c (left n p v b)) s
 only_names c n p v b s h f (name x) rest g e = f x rest g.1 e
 only_names c n p v b s h f (param x) rest g e = absurd (omega (arith, g.0))
 only_names c n p v b s h f (value x) rest g e = absurd (omega (arith, g.0))
 only_names c n p v b s h f (head x) rest g e = absurd (omega (arith, g.0))
 
-only_params : (c p v : ℕ) (b : Bool) (s : List ℕ) → 0 < p → Lacks rendered_param (GoodParam c) s → Lacks written (Fits c (left 0 p v b)) s
+only_params : (c p v : ℕ) (b : Bool) (s : List ℕ) → 0 < p → Lacks rendered_param (GoodParam c) s →
+    Lacks written (Fits c (left 0 p v b)) s
 only_params c p v b s h f (name x) rest g e = absurd (omega (arith, g.0))
 only_params c p v b s h f (param x) rest g e = f x rest g.2 e
 only_params c p v b s h f (value x) rest g e = absurd (omega (arith, g.1))
 only_params c p v b s h f (head x) rest g e = absurd (omega (arith, g.1))
 
-only_values : (c v : ℕ) (b : Bool) (s : List ℕ) → 0 < v → Lacks rendered_value GoodValue s → Lacks written (Fits c (left 0 0 v b)) s
+only_values : (c v : ℕ) (b : Bool) (s : List ℕ) → 0 < v → Lacks rendered_value GoodValue s →
+    Lacks written (Fits c (left 0 0 v b)) s
 only_values c v b s h f (name x) rest g e = absurd (omega (arith, g.0))
 only_values c v b s h f (param x) rest g e = absurd (omega (arith, g.1))
 only_values c v b s h f (value x) rest g e = f x rest g.3 e
 only_values c v b s h f (head x) rest g e = absurd (omega (arith, g.2))
 
-only_heads : (c : ℕ) (b : Bool) (s : List ℕ) → Lacks rendered_head (GoodHead b) s → Lacks written (Fits c (left 0 0 0 b)) s
+only_heads : (c : ℕ) (b : Bool) (s : List ℕ) → Lacks rendered_head (GoodHead b) s →
+    Lacks written (Fits c (left 0 0 0 b)) s
 only_heads c b s f (name x) rest g e = absurd (omega (arith, g.0))
 only_heads c b s f (param x) rest g e = absurd (omega (arith, g.1))
 only_heads c b s f (value x) rest g e = absurd (omega (arith, g.2))
 only_heads c b s f (head x) rest g e = f x rest g.3 e
 
-joined_names : (ns : List (List ℕ)) → flat_map rendered_name ns ≡ flat_map written (map name ns)
-joined_names [] = refl
-joined_names (n ∷ ns) = ap (λ l. rendered_name n ++ l) (joined_names ns)
-
-joined_params : (ps : List ℕ) → flat_map rendered_param ps ≡ flat_map written (map param ps)
-joined_params [] = refl
-joined_params (p ∷ ps) = ap (λ l. rendered_param p ++ l) (joined_params ps)
-
-joined_values : (vs : List Value) → flat_map rendered_value vs ≡ flat_map written (map value vs)
-joined_values [] = refl
-joined_values (v ∷ vs) = ap (λ l. rendered_value v ++ l) (joined_values vs)
-
 -- The heading.
-pub heading_refused : (s : List ℕ) (bad : ℕ) → Stuck rendered_heading GoodHeading s 0 1 bad → RefusedAt s bad
-heading_refused s bad x = subst (λ z. RefusedAt s z) (sym x.line) (refused_first s x.lacks)
+pub reached_start : {s r t : List ℕ} {l n : ℕ} {h : Heading} → r ≡ s → l ≡ 1 →
+    Moved rendered_heading GoodHeading r l h t n → Reached s h (begin h) t n
+reached_start e f m =
+    record {
+      good = m.good;
+      lines = [];
+      runs = refl;
+      begins = sym e ∙ m.begins;
+      count = omega (arith, m.line);
+    }
 
--- Some names.
-named : (s : List ℕ) (h : Heading) (l n k p q m : ℕ) → Reached s h (begin h) p n → (b : Block rendered_name GoodName s p k q) → k ≤ h.columns → m ≡ n + k → Reached s h (left (h.columns - k) h.parameters 0 false) q m
-named s h l n k p q m x b le is =
-    let ns = b.items in
-    let many = b.many in
-    let r = names_run h.columns h.columns h.parameters 0 false ns (omega arith) b.good in
-    let e : h.columns - length ns ≡ h.columns - k = omega arith in
-    let r' = subst (λ z. Runs h.columns (more (begin h)) (map name ns) (more (left z h.parameters 0 false))) e r in
-    let lm = length-map ns name in
-    reached_on s h (begin h) p n (map name ns) (left (h.columns - k) h.parameters 0 false) q m x r' (b.begins ∙ ap (λ l. l ++ drop q s) (joined_names ns)) (omega arith)
+pub heading_refused : {s r : List ℕ} {l bad : ℕ} → r ≡ s → l ≡ 1 →
+    Stuck rendered_heading GoodHeading r l bad → RefusedAt s bad
+heading_refused {s = s} e f x =
+    let no = subst (λ z. Lacks rendered_heading GoodHeading z) e x.lacks in
+    subst (λ z. RefusedAt s z) (sym (x.line ∙ f)) (refused_first s no)
 
-pub names_refused : (s : List ℕ) (h : Heading) (p n bad : ℕ) → Moved rendered_heading GoodHeading s 0 1 h p n → Breaks rendered_name GoodName s p n h.columns bad → RefusedAt s bad
-names_refused s h p n bad m x =
-    let k = x.there in
-    let short = x.short in
-    let y = named s h 0 n k p x.next (n + k) (reached_start s h p n m) x.front (omega arith) refl in
-    reached_refused s h (left (h.columns - k) h.parameters 0 false) x.next (n + k) bad y (only_names h.columns (h.columns - k) h.parameters 0 false (drop x.next s) (omega arith) x.stuck.lacks) x.stuck.line
+-- Some lines of a kind.
+block_on : {V : Type 0} {write : V → List ℕ} {Good : V → Type 0} (line : V → Line) {s : List ℕ}
+    {h : Heading} {l : Left} {t : List ℕ} {n k : ℕ} {u : List ℕ} {q : Left} →
+    Reached s h l t n → (b : Block write Good t k u) →
+    Runs h.columns (more l) (map line b.items) (more q) →
+    flat_map written (map line b.items) ≡ flat_map write b.items → Reached s h q u (n + k)
+block_on line {n = n} {k = k} {u = u} x b r e =
+    reached_on (map line b.items) x r (b.begins ∙ ap (λ z. z ++ u) (sym e))
+    (omega (arith, length-map b.items line, b.many))
 
-all_named : (s : List ℕ) (h : Heading) (p n q m : ℕ) → Moved rendered_heading GoodHeading s 0 1 h p n → Block rendered_name GoodName s p h.columns q → m ≡ n + h.columns → Reached s h (left 0 h.parameters 0 false) q m
-all_named s h p n q m x b is =
-    let e : h.columns - h.columns ≡ 0 = omega arith in
-    subst (λ z. Reached s h (left z h.parameters 0 false) q m) e (named s h 0 n h.columns p q m (reached_start s h p n x) b (omega arith) is)
+some_names : {s t u : List ℕ} {h : Heading} {c p n k : ℕ} → Reached s h (left c p 0 false) t n →
+    (b : Block rendered_name GoodName t k u) → k ≤ c →
+    Reached s h (left (c - length b.items) p 0 false) u (n + k)
+some_names {h = h} {c = c} {p = p} x b le =
+    let r = names_run h.columns c p 0 false b.items (omega (arith, b.many)) b.good in
+    block_on name x b r (flat_map-map written name b.items)
 
--- Some parameters.
-parted : (s : List ℕ) (h : Heading) (n k p q m : ℕ) → Reached s h (left 0 h.parameters 0 false) p n → (b : Block rendered_param (GoodParam h.columns) s p k q) → k ≤ h.parameters → m ≡ n + k → Reached s h (left 0 (h.parameters - k) 0 (names_column b.items)) q m
-parted s h n k p q m x b le is =
-    let ps = b.items in
-    let many = b.many in
-    let r = params_run h.columns h.parameters 0 false ps (omega arith) b.good in
-    let e : h.parameters - length ps ≡ h.parameters - k = omega arith in
-    let r' = subst (λ z. Runs h.columns (more (left 0 h.parameters 0 false)) (map param ps) (more (left 0 z 0 (names_column ps)))) e r in
-    let lm = length-map ps param in
-    reached_on s h (left 0 h.parameters 0 false) p n (map param ps) (left 0 (h.parameters - k) 0 (names_column ps)) q m x r' (b.begins ∙ ap (λ l. l ++ drop q s) (joined_params ps)) (omega arith)
+pub names_refused : {s t : List ℕ} {h : Heading} {c p n bad : ℕ} →
+    Reached s h (left c p 0 false) t n → Breaks rendered_name GoodName t n c bad → RefusedAt s bad
+names_refused {h = h} {c = c} {p = p} x y =
+    let b = y.front in
+    let some : 0 < c - length b.items = omega (arith, y.short, b.many) in
+    let no = only_names h.columns (c - length b.items) p 0 false y.next some y.stuck.lacks in
+    reached_refused (some_names x b (omega (arith, y.short))) no y.stuck.line
 
-pub params_refused : (s : List ℕ) (h : Heading) (p n q m bad : ℕ) → Moved rendered_heading GoodHeading s 0 1 h p n → Block rendered_name GoodName s p h.columns q → m ≡ n + h.columns → Breaks rendered_param (GoodParam h.columns) s q m h.parameters bad → RefusedAt s bad
-params_refused s h p n q m bad x b is y =
-    let k = y.there in
-    let short = y.short in
-    let t = names_column y.front.items in
-    let z = parted s h m k q y.next (m + k) (all_named s h p n q m x b is) y.front (omega arith) refl in
-    reached_refused s h (left 0 (h.parameters - k) 0 t) y.next (m + k) bad z (only_params h.columns (h.parameters - k) 0 t (drop y.next s) (omega arith) y.stuck.lacks) y.stuck.line
+pub all_names : {s t u : List ℕ} {h : Heading} {c p n m : ℕ} → Reached s h (left c p 0 false) t n →
+    Block rendered_name GoodName t c u × (m ≡ n + c) → Reached s h (left 0 p 0 false) u m
+all_names {s = s} {u = u} {h = h} {c = c} {p = p} {n = n} x y =
+    let b = y.0 in
+    let e : c - length b.items ≡ 0 = omega (arith, b.many) in
+    let all = subst (λ z. Reached s h (left z p 0 false) u (n + c)) e (some_names x b (omega arith)) in
+    subst (λ z. Reached s h (left 0 p 0 false) u z) (sym y.1) all
 
--- What stands above the outcomes.
-pub record Framed (s : List ℕ) (h : Heading) (p q o n : ℕ) (table : Bool) : Type 0 where
-  pub heading : Moved rendered_heading GoodHeading s 0 1 h p 2
-  pub names : Block rendered_name GoodName s p h.columns q
-  pub params : Block rendered_param (GoodParam h.columns) s q h.parameters o
-  pub table_is : table ≡ names_column params.items
-  pub line : n ≡ 2 + h.columns + h.parameters
+some_params : {s t u : List ℕ} {h : Heading} {p n k : ℕ} → Reached s h (left 0 p 0 false) t n →
+    (b : Block rendered_param (GoodParam h.columns) t k u) → k ≤ p →
+    Reached s h (left 0 (p - length b.items) 0 (names_column b.items)) u (n + k)
+some_params {h = h} {p = p} x b le =
+    let r = params_run h.columns p 0 false b.items (omega (arith, b.many)) b.good in
+    block_on param x b r (flat_map-map written param b.items)
 
-framed_reached : (s : List ℕ) (h : Heading) (p q o n : ℕ) (table : Bool) → Framed s h p q o n table → Reached s h (left 0 0 0 table) o n
-framed_reached s h p q o n table f =
-    let e : h.parameters - h.parameters ≡ 0 = omega arith in
-    let i = f.line in
-    let x = parted s h (2 + h.columns) h.parameters q o n (all_named s h p 2 q (2 + h.columns) f.heading f.names refl) f.params (omega arith) (omega arith) in
-    let y = subst (λ z. Reached s h (left 0 z 0 (names_column f.params.items)) o n) e x in
-    subst (λ z. Reached s h (left 0 0 0 z) o n) (sym f.table_is) y
+pub params_refused : {s t : List ℕ} {h : Heading} {p n bad : ℕ} →
+    Reached s h (left 0 p 0 false) t n → Breaks rendered_param (GoodParam h.columns) t n p bad →
+    RefusedAt s bad
+params_refused {h = h} {p = p} x y =
+    let b = y.front in
+    let t = names_column b.items in
+    let some : 0 < p - length b.items = omega (arith, y.short, b.many) in
+    let no = only_params h.columns (p - length b.items) 0 t y.next some y.stuck.lacks in
+    reached_refused (some_params x b (omega (arith, y.short))) no y.stuck.line
+
+-- What `parameters` gives.
+abbrev Params : ℕ → List ℕ → ℕ → ℕ → List ℕ → ℕ → Bool → Type 0
+Params columns t n p u m table =
+    (b : Block rendered_param (GoodParam columns) t p u) × (table ≡ names_column b.items) × (m ≡ n + p)
+
+pub all_params : {s t u : List ℕ} {h : Heading} {p n m : ℕ} {table : Bool} →
+    Reached s h (left 0 p 0 false) t n → Params h.columns t n p u m table →
+    Reached s h (left 0 0 0 table) u m
+all_params {s = s} {u = u} {h = h} {p = p} {n = n} {table = table} x y =
+    let b = y.0 in
+    let z : p - length b.items ≡ 0 = omega (arith, b.many) in
+    let e : left 0 (p - length b.items) 0 (names_column b.items) ≡ left 0 0 0 table = cc (y.1) in
+    let all = subst (λ z. Reached s h z u (n + p)) e (some_params x b (omega arith)) in
+    subst (λ z. Reached s h (left 0 0 0 table) u z) (sym y.2) all
 
 -- Some outcomes.
-went : (s : List ℕ) (h : Heading) (p n q m : ℕ) (table : Bool) → Reached s h (left 0 0 0 table) p n → (x : Outcomes s h.columns table p q) → m ≡ n + length (flat_map outcome_lines x.items) → Reached s h (left 0 0 0 table) q m
-went s h p n q m table r x is =
+went : {s t u : List ℕ} {h : Heading} {table : Bool} {n : ℕ} → Reached s h (left 0 0 0 table) t n →
+    (x : Outcomes t h.columns table u) →
+    Reached s h (left 0 0 0 table) u (n + length (flat_map outcome_lines x.items))
+went {u = u} {h = h} {table = table} r x =
     let os = x.items in
     let w = written_outcomes os in
-    let e : together (flat_map outcome_lines os) ≡ flat_map written (flat_map heads os) = ap together w ∙ together_map (flat_map heads os) in
-    let l = ap length w ∙ length-map (flat_map heads os) written in
-    reached_on s h (left 0 0 0 table) p n (flat_map heads os) (left 0 0 0 table) q m r (outcomes_run h.columns table os x.good x.suits) (x.begins ∙ ap (λ z. z ++ drop q s) e) (omega arith)
+    let ls = flat_map heads os in
+    let e = ap together w ∙ flat_map-map (λ l. l) written ls in
+    reached_on ls r (outcomes_run h.columns table os x.good x.suits) (x.begins ∙ ap (λ z. z ++ u) e)
+    (omega (arith, ap length w, length-map ls written))
 
-short_row : (s : List ℕ) (h : Heading) (p n first bad : ℕ) (table : Bool) → Reached s h (left 0 0 0 table) p n → drop p s ≡ row_line ++ drop first s → Breaks rendered_value GoodValue s first (n + 1) h.columns bad → RefusedAt s bad
-short_row s h p n first bad table r e x =
+short_row : {s t first : List ℕ} {h : Heading} {table : Bool} {n bad : ℕ} →
+    Reached s h (left 0 0 0 table) t n → t ≡ row_line ++ first →
+    Breaks rendered_value GoodValue first (n + 1) h.columns bad → RefusedAt s bad
+short_row {h = h} {table = table} {n = n} x e y =
     let c = h.columns in
-    let k = x.there in
-    let short = x.short in
-    let vs = x.front.items in
-    let many = x.front.many in
-    let i : c - length vs ≡ c - k = omega arith in
-    let run = subst (λ z. Runs c (more (left 0 0 c table)) (map value vs) (more (left 0 0 z table))) i (values_run c c table vs (omega arith) x.front.good) in
-    let lm = length-map vs value in
-    let b = x.front.begins in
-    let j = joined_values vs in
-    let eq : drop p s ≡ 82 ∷ (10 ∷ (flat_map written (map value vs) ++ drop x.next s)) = cc in
-    let y = reached_on s h (left 0 0 0 table) p n (head Row ∷ map value vs) (left 0 0 (c - k) table) x.next (n + 1 + k) r ((refl, refl, refl, (tt, tt)), run) eq (omega arith) in
-    reached_refused s h (left 0 0 (c - k) table) x.next (n + 1 + k) bad y (only_values c (c - k) table (drop x.next s) (omega arith) x.stuck.lacks) x.stuck.line
+    let b = y.front in
+    let z = reached_on (head Row ∷ []) {k = left 0 0 c table} {m = n + 1} x
+    ((refl, refl, refl, (tt, tt)), refl) e (omega arith) in
+    let r = values_run c c table b.items (omega (arith, y.short, b.many)) b.good in
+    let some : 0 < c - length b.items = omega (arith, y.short, b.many) in
+    let no = only_values c (c - length b.items) table y.next some y.stuck.lacks in
+    reached_refused (block_on value z b r (flat_map-map written value b.items)) no y.stuck.line
 
-pub outcomes_refused : (s : List ℕ) (h : Heading) (p q o n bad : ℕ) (table : Bool) → Framed s h p q o n table → OutcomesBreak s h.columns table o n bad → RefusedAt s bad
-outcomes_refused s h p q o n bad table f x =
-    let m = n + length (flat_map outcome_lines x.front.items) in
-    let y = went s h o n x.next m table (framed_reached s h p q o n table f) x.front refl in
+pub outcomes_refused : {s t : List ℕ} {h : Heading} {table : Bool} {n bad : ℕ} →
+    Reached s h (left 0 0 0 table) t n → OutcomesBreak t h.columns table n bad → RefusedAt s bad
+outcomes_refused {h = h} {table = table} {bad = bad} r x =
+    let y = went r x.front in
     ⊎_elim
-    (λ (z : Stuck rendered_head (GoodHead table) s x.next m bad). reached_refused s h (left 0 0 0 table) x.next m bad y (only_heads h.columns table (drop x.next s) z.lacks) z.line)
-    (λ z. short_row s h x.next m z.0 bad table y z.1 z.2)
+    (λ (z : Stuck rendered_head (GoodHead table) x.next _ bad).
+    reached_refused y (only_heads h.columns table x.next z.lacks) z.line)
+    (λ z. short_row y z.1 z.2)
     x.stuck
 
--- Accepted.
-pub accepted : (s : List ℕ) (h : Heading) (p q o n end : ℕ) (table : Bool) → Framed s h p q o n table → Ended s h.columns table o end → Accepted s h.columns h.parameters h.copy_limit p o end table
-accepted s h p q o n end table f x =
-    let ns = f.names.items in
-    let ps = f.params.items in
-    let os = x.items in
-    let cn = f.names.many in
-    let cp = f.params.many in
+-- The parts of an accepted sheet.
+pub accepted : {s r t u o rest : List ℕ} {l n : ℕ} {h : Heading} {table : Bool} → r ≡ s →
+    Moved rendered_heading GoodHeading r l h t n → Block rendered_name GoodName t h.columns u →
+    (b : Block rendered_param (GoodParam h.columns) u h.parameters o) →
+    table ≡ names_column b.items → Ended o h.columns table rest →
+    Accepted s h.columns h.parameters h.copy_limit t o rest table
+accepted {s = s} {o = o} {rest = rest} {h = h} e x y z t w =
+    let ns = y.items in
+    let ps = z.items in
+    let os = w.items in
+    let cn = y.many in
+    let cp = z.many in
+    let g0 = x.good.0 in
+    let g1 = x.good.1 in
     let sheet : Sheet = record { names = ns; params = ps; copy_limit = h.copy_limit; outcomes = os } in
-    let g = f.heading.good in
-    let g0 = g.0 in
-    let g1 = g.1 in
     let good : WellFormed sheet =
     record {
-      heading = (omega arith, omega arith, g.2);
-      names = f.names.good;
-      params = subst (λ i. AllByRecursion (GoodParam i) ps) (sym cn) f.params.good;
-      outcomes = subst (λ i. AllByRecursion (GoodOutcome i) os) (sym cn) x.good;
-      rows = subst (λ i. AllByRecursion (Suits i) os) f.table_is x.suits;
+      heading = (omega arith, omega arith, x.good.2);
+      names = y.good;
+      params = subst (λ i. AllByRecursion (GoodParam i) ps) (sym cn) z.good;
+      outcomes = subst (λ i. AllByRecursion (GoodOutcome i) os) (sym cn) w.good;
+      rows = subst (λ i. AllByRecursion (Suits i) os) t w.suits;
     } in
-    let hd : rendered_heading (heading_of sheet) ≡ rendered_heading h = ap (λ z. rendered_heading (record { columns = z; parameters = length ps; copy_limit = h.copy_limit })) cn ∙ ap (λ z. rendered_heading (record { columns = h.columns; parameters = z; copy_limit = h.copy_limit })) cp in
-    let rb = render_bytes sheet (drop end s) in
-    let e0 = f.heading.begins in
-    let e1 = f.names.begins in
-    let e2 = f.params.begins in
-    let e3 = x.begins in
-    let begins : s ≡ together (render sheet) ++ drop end s = cc in
-    let holds : Holds s sheet = record { good = good; rest = drop end s; begins = begins } in
-    let ls = ap length begins ∙ length-append (together (render sheet)) (drop end s) in
-    let ld = length-drop end s in
-    let w = x.within in
+    let hd = heading_same (length ns) (length ps) h.copy_limit h.columns h.parameters h.copy_limit cn cp refl in
+    let hr = ap rendered_heading hd in
+    let rb = render_bytes sheet rest in
+    let e0 = x.begins in
+    let e1 = y.begins in
+    let e2 = z.begins in
+    let e3 = w.begins in
+    let whole : s ≡ together (render sheet) ++ rest = cc in
+    let holds : Holds s sheet = record { good = good; rest = rest; begins = whole } in
     record {
       sheet = sheet;
       holds = holds;
@@ -213,32 +229,40 @@ accepted s h p q o n end table f x =
       columns_is = sym cn;
       parameters_is = sym cp;
       copies_is = refl;
-      table_is = f.table_is;
-      names_from = (drop q s, f.names.begins);
-      names_within = f.heading.within;
-      outcomes_from = record { good = x.good; rest = drop end s; begins = x.begins };
-      outcomes_within = f.params.within;
-      end_is = omega arith;
-      end_within = x.within;
+      table_is = t;
+      begins = cc;
+      names_are = cc;
+      outcomes_are = record { good = w.good; rest = rest; begins = w.begins };
+      ends = w.begins;
+      whole = whole;
     }
 
--- The reader starts at place 0 and line 1 of the bytes.
-pub at_start : (s t : List ℕ) (p l : ℕ) (h : Heading) (q m : ℕ) → t ≡ s → p ≡ 0 → l ≡ 1 → Moved rendered_heading GoodHeading t p l h q m → Moved rendered_heading GoodHeading s 0 1 h q m
-at_start s t p l h q m e f g x =
-    subst (λ z. Moved rendered_heading GoodHeading s 0 z h q m) g (subst (λ z. Moved rendered_heading GoodHeading s z l h q m) f (subst (λ z. Moved rendered_heading GoodHeading z p l h q m) e x))
+-- What a checked sheet keeps, of the content x.
+pub record Kept (s : List ℕ) (x : Sheet) (columns parameters copies : ℕ)
+    (names outcomes rest : List ℕ) (table : Bool) : Type 0 where
+  pub good : WellFormed x
+  pub every : columns ≡ length x.names
+  pub each : parameters ≡ length x.params
+  pub copies_is : copies ≡ x.copy_limit
+  pub tabled : table ≡ names_column x.params
+  pub named : names ≡ flat_map rendered_name x.names ++ (flat_map rendered_param x.params ++ outcomes)
+  pub stands : outcomes ≡ together (body_lines x.outcomes) ++ rest
+  pub whole : s ≡ together (render x) ++ rest
 
-pub stuck_start : (s t : List ℕ) (p l bad : ℕ) → t ≡ s → p ≡ 0 → l ≡ 1 → Stuck rendered_heading GoodHeading t p l bad → Stuck rendered_heading GoodHeading s 0 1 bad
-stuck_start s t p l bad e f g x =
-    subst (λ z. Stuck rendered_heading GoodHeading s 0 z bad) g (subst (λ z. Stuck rendered_heading GoodHeading s z l bad) f (subst (λ z. Stuck rendered_heading GoodHeading z p l bad) e x))
-
-pub framed : (s : List ℕ) (h : Heading) (p n q m o k : ℕ) (table : Bool) → Moved rendered_heading GoodHeading s 0 1 h p n → Block rendered_name GoodName s p h.columns q → m ≡ n + h.columns → (b : Block rendered_param (GoodParam h.columns) s q h.parameters o) × (table ≡ names_column b.items) × (k ≡ m + h.parameters) → Framed s h p q o k table
-framed s h p n q m o k table x b is y =
-    let i = x.line in
-    let j = y.2 in
-    let two : n ≡ 2 = omega arith in
-    record { heading = subst (λ z. Moved rendered_heading GoodHeading s 0 1 h p z) two x; names = b; params = y.0; table_is = y.1; line = omega arith }
-
--- What a `?` hands on where a line is bad.
-pub err_is : {X E : Type 0} (P : X → Type 0) (Q : E → Type 0) (r : Result X E) (x : E) → IsErrAnd r (λ y. y ≡ x) → Q x → MatchResult r P Q
-err_is P Q (Ok a) x f q = absurd f
-err_is P Q (Err e) x f q = subst Q (sym f) q
+-- It is the content that the decoder gives.
+pub kept : {s names outcomes rest : List ℕ} {columns parameters copies : ℕ} {table : Bool} →
+    Accepted s columns parameters copies names outcomes rest table →
+    Kept s (sheet_at s) columns parameters copies names outcomes rest table
+kept {s = s} {names = ns} {outcomes = os} {rest = r} {columns = c} {parameters = p} {copies = m}
+    {table = t} a =
+    subst (λ z. Kept s z c p m ns os r t) (sym (sheet_at_lem s a.sheet a.holds))
+    (record {
+      good = a.holds.good;
+      every = a.columns_is;
+      each = a.parameters_is;
+      copies_is = a.copies_is;
+      tabled = a.table_is;
+      named = a.names_are;
+      stands = a.ends;
+      whole = a.whole;
+    })

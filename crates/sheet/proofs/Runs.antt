@@ -1,14 +1,14 @@
 -- The lines below the heading as an automaton: which line may come next.
 -- Two runs over the same bytes agree; every run is the front of some content's lines; every content runs to its end.
-use Rattle.std.proofs.Common.{◌≡◌, ℕ, zero, suc, ◌-◌, ◌^◌, ◌<◌, ◌≤◌, Bool, true, false, not, ◌||◌, eqb, List, [], ◌∷◌, ◌++◌, map, length, get_or, take, replicate, decimal, sym, refl, ap, ◌∙◌, subst, append_assoc, arith}
-use Rattle.std.specs.Fmt.{signed_decimal}
+use Rattle.std.proofs.Common.{◌≡◌, ℕ, zero, suc, ◌-◌, ◌^◌, ◌<◌, ◌≤◌, Bool, false, not, ◌||◌, ◌&&◌, cond, eqb, leb, List, [], ◌∷◌, ◌++◌, map, length, get_or, take, drop, replicate, sym, refl, ap, ◌∙◌, subst, append_assoc, arith}
 use Rattle.std.specs.List.{flat_map, AllByRecursion}
+use Rattle.std.proofs.Math.Bool.{or_assoc, or-false}
 use Rattle.std.proofs.lemmas.List.{nil_from_length, length-replicate}
 use Rattle.values.specs.Value.{Value, null, long, double, text, blob}
 use Rattle.host.specs.Outcome.{Outcome, row, done, failed}
-use Rattle.figures.proofs.Steps.{figure_free, piece_free, number_free}
-use Rattle.sheet.proofs.Parts.{flat_stop, flat_piece, head_is}
-use Rattle.sheet.specs.Sheet.{rendered_name, piece_line, rendered_param, rendered_value, GoodName, GoodParam, GoodValue, GoodOutcome, names_column, Suits}
+use Rattle.sheet.proofs.Decoded.{line_at, value_at_lem, name_at_lem, param_at_lem}
+use Rattle.sheet.specs.Decode.{figure_at, piece_at, front_value}
+use Rattle.sheet.specs.Sheet.{rendered_name, rendered_param, rendered_value, GoodName, GoodParam, GoodValue, GoodOutcome, names_column, Suits}
 use Rattle.sheet.specs.Lines.{rendered_head, PlainHead, GoodHead}
 use Rattle.sheet.specs.declared.lines.Head.{Head}
 use Rattle.sheet.specs.declared.lines.Head.TheVariants.{Row, Done, Failed, End}
@@ -60,94 +60,69 @@ next c l (param k) = more (left l.names (l.params - 1) l.values (l.table || not 
 next c l (value v) = more (left l.names l.params (l.values - 1) l.table)
 next c l (head h) = after_head c l.table h
 
--- Lines are read in one way.
-two_less : (a b c d : ℕ) (r t : List ℕ) → a ∷ (b ∷ r) ≡ c ∷ (d ∷ t) → r ≡ t
-two_less a b c d r t e = cc
+-- A kind of line is read in one way, since it is decoded.
+abbrev pub Free : {V : Type 0} → (V → List ℕ) → (V → Type 0) → Type 0
+Free {V} write Good =
+    (x y : V) (r t : List ℕ) → Good x → Good y → write x ++ r ≡ write y ++ t → (x ≡ y) × (r ≡ t)
 
-pieces : (b d r t : List ℕ) → length b < 2 ^ 64 → length d < 2 ^ 64 → piece_line b ++ r ≡ piece_line d ++ t → (b ≡ d) × (r ≡ t)
-pieces b d r t hb hd e = piece_free b d r t hb hd (sym (flat_piece (decimal (length b)) b r) ∙ (e ∙ flat_piece (decimal (length d)) d t))
+pub free_by : {V : Type 0} (write : V → List ℕ) (Good : V → Type 0) (read : List ℕ → V × List ℕ) →
+    ((v : V) (r : List ℕ) → Good v → read (write v ++ r) ≡ (v, r)) → Free write Good
+free_by write Good read law x y r t f g e =
+    let p = sym (law x r f) ∙ (ap read e ∙ law y t g) in
+    (ap (λ q. q.0) p, ap (λ q. q.1) p)
 
-figures : (m n : ℕ) (r t : List ℕ) → m < 2 ^ 64 → n < 2 ^ 64 → (decimal m ++ (10 ∷ [])) ++ r ≡ (decimal n ++ (10 ∷ [])) ++ t → (m ≡ n) × (r ≡ t)
-figures m n r t hm hn e =
-    let k = figure_free m n 10 10 r t hm hn (omega arith) (omega arith) (sym (flat_stop (decimal m) r) ∙ (e ∙ flat_stop (decimal n) t)) in
-    (k.figures, k.rests)
+pub name_free : Free rendered_name GoodName
+name_free = free_by rendered_name GoodName (λ l. piece_at (drop 2 l)) name_at_lem
 
-pub name_free : (b d : List ℕ) (r t : List ℕ) → GoodName b → GoodName d → rendered_name b ++ r ≡ rendered_name d ++ t → (b ≡ d) × (r ≡ t)
-name_free b d r t f g e =
-    let a = f.1 in
-    let h = g.1 in
-    pieces b d r t (omega arith) (omega arith) (two_less _ _ _ _ _ _ e)
+pub value_free : Free rendered_value GoodValue
+value_free = free_by rendered_value GoodValue front_value value_at_lem
 
-pub value_free : (x y : Value) (r t : List ℕ) → GoodValue x → GoodValue y → rendered_value x ++ r ≡ rendered_value y ++ t → (x ≡ y) × (r ≡ t)
-value_free null null r t f g e = (refl, two_less _ _ _ _ _ _ e)
-value_free null (long z) r t f g e = absurd (omega (arith, head_is _ _ _ _ e))
-value_free null (double n) r t f g e = absurd (omega (arith, head_is _ _ _ _ e))
-value_free null (text d) r t f g e = absurd (omega (arith, head_is _ _ _ _ e))
-value_free null (blob d) r t f g e = absurd (omega (arith, head_is _ _ _ _ e))
-value_free (long y) null r t f g e = absurd (omega (arith, head_is _ _ _ _ e))
-value_free (long y) (long z) r t f g e =
-    let n = number_free y z 10 r t (omega arith) f g (sym (flat_stop (signed_decimal y) r) ∙ (two_less _ _ _ _ _ _ e ∙ flat_stop (signed_decimal z) t)) in (ap long n.0, n.1)
-value_free (long y) (double n) r t f g e = absurd (omega (arith, head_is _ _ _ _ e))
-value_free (long y) (text d) r t f g e = absurd (omega (arith, head_is _ _ _ _ e))
-value_free (long y) (blob d) r t f g e = absurd (omega (arith, head_is _ _ _ _ e))
-value_free (double m) null r t f g e = absurd (omega (arith, head_is _ _ _ _ e))
-value_free (double m) (long z) r t f g e = absurd (omega (arith, head_is _ _ _ _ e))
-value_free (double m) (double n) r t f g e = let k = figures m n r t f.0 g.0 (two_less _ _ _ _ _ _ e) in (ap double k.0, k.1)
-value_free (double m) (text d) r t f g e = absurd (omega (arith, head_is _ _ _ _ e))
-value_free (double m) (blob d) r t f g e = absurd (omega (arith, head_is _ _ _ _ e))
-value_free (text b) null r t f g e = absurd (omega (arith, head_is _ _ _ _ e))
-value_free (text b) (long z) r t f g e = absurd (omega (arith, head_is _ _ _ _ e))
-value_free (text b) (double n) r t f g e = absurd (omega (arith, head_is _ _ _ _ e))
-value_free (text b) (text d) r t f g e = let n = pieces b d r t (omega arith) (omega arith) (two_less _ _ _ _ _ _ e) in (ap text n.0, n.1)
-value_free (text b) (blob d) r t f g e = absurd (omega (arith, head_is _ _ _ _ e))
-value_free (blob b) null r t f g e = absurd (omega (arith, head_is _ _ _ _ e))
-value_free (blob b) (long z) r t f g e = absurd (omega (arith, head_is _ _ _ _ e))
-value_free (blob b) (double n) r t f g e = absurd (omega (arith, head_is _ _ _ _ e))
-value_free (blob b) (text d) r t f g e = absurd (omega (arith, head_is _ _ _ _ e))
-value_free (blob b) (blob d) r t f g e = let n = pieces b d r t (omega arith) (omega arith) (two_less _ _ _ _ _ _ e) in (ap blob n.0, n.1)
+front_head : List ℕ → Head × List ℕ
+front_head [] = (End, [])
+front_head (c ∷ cs) =
+    cond (eqb c 82) (Row, drop 1 cs)
+    (cond (eqb c 68) (Done, drop 1 cs)
+    (cond (eqb c 69) (End, drop 1 cs) (Failed (figure_at 0 (drop 1 cs)).0, (figure_at 0 (drop 1 cs)).1)))
 
-pub head_free : (x y : Head) (r t : List ℕ) → PlainHead x → PlainHead y → rendered_head x ++ r ≡ rendered_head y ++ t → (x ≡ y) × (r ≡ t)
-head_free Row Row r t f g e = (refl, two_less _ _ _ _ _ _ e)
-head_free Row Done r t f g e = absurd (omega (arith, head_is _ _ _ _ e))
-head_free Row (Failed n) r t f g e = absurd (omega (arith, head_is _ _ _ _ e))
-head_free Row End r t f g e = absurd (omega (arith, head_is _ _ _ _ e))
-head_free Done Row r t f g e = absurd (omega (arith, head_is _ _ _ _ e))
-head_free Done Done r t f g e = (refl, two_less _ _ _ _ _ _ e)
-head_free Done (Failed n) r t f g e = absurd (omega (arith, head_is _ _ _ _ e))
-head_free Done End r t f g e = absurd (omega (arith, head_is _ _ _ _ e))
-head_free (Failed m) Row r t f g e = absurd (omega (arith, head_is _ _ _ _ e))
-head_free (Failed m) Done r t f g e = absurd (omega (arith, head_is _ _ _ _ e))
-head_free (Failed m) (Failed n) r t f g e =
-    let a = f.1 in
-    let b = g.1 in
-    let k = figures m n r t (omega arith) (omega arith) (two_less _ _ _ _ _ _ e) in
-    (ap Failed k.0, k.1)
-head_free (Failed m) End r t f g e = absurd (omega (arith, head_is _ _ _ _ e))
-head_free End Row r t f g e = absurd (omega (arith, head_is _ _ _ _ e))
-head_free End Done r t f g e = absurd (omega (arith, head_is _ _ _ _ e))
-head_free End (Failed n) r t f g e = absurd (omega (arith, head_is _ _ _ _ e))
-head_free End End r t f g e = (refl, two_less _ _ _ _ _ _ e)
+head_at_lem : (h : Head) (r : List ℕ) → PlainHead h → front_head (rendered_head h ++ r) ≡ (h, r)
+unfolding front_head
+head_at_lem Row r g = refl
+head_at_lem Done r g = refl
+head_at_lem (Failed code) r g =
+    let b = g.1 in ap (λ p. (Failed p.0, p.1)) (line_at code r (omega arith))
+head_at_lem End r g = refl
 
-line_free : (c : ℕ) (l : Left) (x y : Line) (r t : List ℕ) → c < 2 ^ 64 → Fits c l x → Fits c l y → written x ++ r ≡ written y ++ t → (x ≡ y) × (r ≡ t)
-line_free c l (name b) (name d) r t w f g e = let n = name_free b d r t f.1 g.1 e in (ap name n.0, n.1)
-line_free c l (name b) (param k) r t w f g e = absurd (omega (arith, f.0, g.0))
-line_free c l (name b) (value v) r t w f g e = absurd (omega (arith, f.0, g.0))
-line_free c l (name b) (head h) r t w f g e = absurd (omega (arith, f.0, g.0))
-line_free c l (param j) (name d) r t w f g e = absurd (omega (arith, f.0, g.0))
-line_free c l (param j) (param k) r t w f g e =
-    let a = f.2 in
-    let h = g.2 in
-    let n = figures j k r t (omega arith) (omega arith) (two_less _ _ _ _ _ _ e) in (ap param n.0, n.1)
-line_free c l (param j) (value v) r t w f g e = absurd (omega (arith, f.1, g.1))
-line_free c l (param j) (head h) r t w f g e = absurd (omega (arith, f.1, g.1))
-line_free c l (value v) (name d) r t w f g e = absurd (omega (arith, f.0, g.0))
-line_free c l (value v) (param k) r t w f g e = absurd (omega (arith, f.1, g.1))
-line_free c l (value v) (value x) r t w f g e = let n = value_free v x r t f.3 g.3 e in (ap value n.0, n.1)
-line_free c l (value v) (head h) r t w f g e = absurd (omega (arith, f.2, g.2))
-line_free c l (head h) (name d) r t w f g e = absurd (omega (arith, f.0, g.0))
-line_free c l (head h) (param k) r t w f g e = absurd (omega (arith, f.1, g.1))
-line_free c l (head h) (value x) r t w f g e = absurd (omega (arith, f.2, g.2))
-line_free c l (head h) (head k) r t w f g e = let n = head_free h k r t f.3.1 g.3.1 e in (ap head n.0, n.1)
+pub head_free : Free rendered_head PlainHead
+head_free = free_by rendered_head PlainHead front_head head_at_lem
+
+-- Each line that may come has its own letter.
+front_line : List ℕ → Line × List ℕ
+front_line [] = (head End, [])
+front_line (c ∷ cs) =
+    cond (eqb c 67) (name (piece_at (drop 1 cs)).0, (piece_at (drop 1 cs)).1)
+    (cond (eqb c 80) (param (figure_at 0 (drop 1 cs)).0, (figure_at 0 (drop 1 cs)).1)
+    (cond (eqb c 82 || (leb 68 c && leb c 70)) (head (front_head (c ∷ cs)).0, (front_head (c ∷ cs)).1)
+    (value (front_value (c ∷ cs)).0, (front_value (c ∷ cs)).1)))
+
+line_at_lem : (c : ℕ) (l : Left) → c < 2 ^ 64 → (x : Line) (r : List ℕ) → Fits c l x →
+    front_line (written x ++ r) ≡ (x, r)
+unfolding front_line
+line_at_lem c l w (name b) r g = ap (λ p. (name p.0, p.1)) (name_at_lem b r g.1)
+line_at_lem c l w (param k) r g = ap (λ p. (param p.0, p.1)) (param_at_lem c k r w g.2)
+line_at_lem c l w (value null) r g = ap (λ p. (value p.0, p.1)) (value_at_lem null r g.3)
+line_at_lem c l w (value (long z)) r g = ap (λ p. (value p.0, p.1)) (value_at_lem (long z) r g.3)
+line_at_lem c l w (value (double n)) r g =
+    ap (λ p. (value p.0, p.1)) (value_at_lem (double n) r g.3)
+line_at_lem c l w (value (text b)) r g = ap (λ p. (value p.0, p.1)) (value_at_lem (text b) r g.3)
+line_at_lem c l w (value (blob b)) r g = ap (λ p. (value p.0, p.1)) (value_at_lem (blob b) r g.3)
+line_at_lem c l w (head Row) r g = ap (λ p. (head p.0, p.1)) (head_at_lem Row r g.3.1)
+line_at_lem c l w (head Done) r g = ap (λ p. (head p.0, p.1)) (head_at_lem Done r g.3.1)
+line_at_lem c l w (head (Failed code)) r g =
+    ap (λ p. (head p.0, p.1)) (head_at_lem (Failed code) r g.3.1)
+line_at_lem c l w (head End) r g = ap (λ p. (head p.0, p.1)) (head_at_lem End r g.3.1)
+
+line_free : (c : ℕ) (l : Left) → c < 2 ^ 64 → Free written (Fits c l)
+line_free c l w = free_by written (Fits c l) front_line (line_at_lem c l w)
 
 -- The lines lead from one state to the other.
 abbrev pub Runs : ℕ → Want → List Line → Want → Type 0
@@ -155,16 +130,19 @@ Runs c q [] m = q ≡ m
 Runs c (more l) (x ∷ xs) m = Fits c l x × Runs c (next c l x) xs m
 Runs c nothing (x ∷ xs) m = ⊥
 
-pub runs_append : (c : ℕ) (p m q : Want) (xs ys : List Line) → Runs c p xs m → Runs c m ys q → Runs c p (xs ++ ys) q
+pub runs_append : (c : ℕ) (p m q : Want) (xs ys : List Line) → Runs c p xs m → Runs c m ys q →
+    Runs c p (xs ++ ys) q
 runs_append c p m q [] ys a b = subst (λ z. Runs c z ys q) (sym a) b
 runs_append c nothing m q (x ∷ xs) ys a b = absurd a
 runs_append c (more l) m q (x ∷ xs) ys a b = (a.0, runs_append c (next c l x) m q xs ys a.1 b)
 
-pub runs_take : (c : ℕ) (q m : Want) (xs : List Line) (n : ℕ) → Runs c q xs m → (k : Want) × Runs c q (take n xs) k
+pub runs_take : (c : ℕ) (q m : Want) (xs : List Line) (n : ℕ) → Runs c q xs m →
+    (k : Want) × Runs c q (take n xs) k
 runs_take c q m xs zero r = (q, refl)
 runs_take c q m [] (suc n) r = (q, refl)
 runs_take c nothing m (x ∷ xs) (suc n) r = absurd r
-runs_take c (more l) m (x ∷ xs) (suc n) r = let k = runs_take c (next c l x) m xs n r.1 in (k.0, (r.0, k.1))
+runs_take c (more l) m (x ∷ xs) (suc n) r =
+    let k = runs_take c (next c l x) m xs n r.1 in (k.0, (r.0, k.1))
 
 pub record Followed (c : ℕ) (m q : Want) (xs ys : List Line) (r t : List ℕ) : Type 0 where
   pub rest : List Line
@@ -172,14 +150,17 @@ pub record Followed (c : ℕ) (m q : Want) (xs ys : List Line) (r t : List ℕ) 
   pub runs : Runs c m rest q
   pub begins : r ≡ flat_map written rest ++ t
 
-pub follow : (c : ℕ) (p m q : Want) (xs ys : List Line) (r t : List ℕ) → c < 2 ^ 64 → Runs c p xs m → Runs c p ys q → length xs ≤ length ys → flat_map written xs ++ r ≡ flat_map written ys ++ t → Followed c m q xs ys r t
-follow c p m q [] ys r t w a b h e = record { rest = ys; is = refl; runs = subst (λ z. Runs c z ys q) a b; begins = e }
+pub follow : (c : ℕ) (p m q : Want) (xs ys : List Line) (r t : List ℕ) → c < 2 ^ 64 →
+    Runs c p xs m → Runs c p ys q → length xs ≤ length ys →
+    flat_map written xs ++ r ≡ flat_map written ys ++ t → Followed c m q xs ys r t
+follow c p m q [] ys r t w a b h e =
+    record { rest = ys; is = refl; runs = subst (λ z. Runs c z ys q) a b; begins = e }
 follow c p m q (x ∷ xs) [] r t w a b h e = absurd (omega arith)
 follow c nothing m q (x ∷ xs) (y ∷ ys) r t w a b h e = absurd a
 follow c (more l) m q (x ∷ xs) (y ∷ ys) r t w a b h e =
     let i = append_assoc (written x) (flat_map written xs) r in
     let j = append_assoc (written y) (flat_map written ys) t in
-    let f = line_free c l x y (flat_map written xs ++ r) (flat_map written ys ++ t) w a.0 b.0 (sym i ∙ (e ∙ j)) in
+    let f = line_free c l w x y (flat_map written xs ++ r) (flat_map written ys ++ t) a.0 b.0 (sym i ∙ (e ∙ j)) in
     let b' : Runs c (next c l x) ys q = subst (λ z. Runs c (next c l z) ys q) (sym f.0) b.1 in
     let n = follow c (next c l x) m q xs ys r t w a.1 b' (omega arith) f.1 in
     let k = f.0 in
@@ -193,39 +174,42 @@ heads done = head Done ∷ []
 heads (failed code) = head (Failed code) ∷ []
 
 abbrev pub tail_lines : List (List ℕ) → List ℕ → List Value → List Outcome → List Line
-tail_lines ns ps vs os = map name ns ++ (map param ps ++ (map value vs ++ (flat_map heads os ++ (head End ∷ []))))
+tail_lines ns ps vs os =
+    map name ns ++ (map param ps ++ (map value vs ++ (flat_map heads os ++ (head End ∷ []))))
 
-pub names_run : (c t p v : ℕ) (b : Bool) (ns : List (List ℕ)) → length ns ≤ t → AllByRecursion GoodName ns → Runs c (more (left t p v b)) (map name ns) (more (left (t - length ns) p v b))
+pub names_run : (c t p v : ℕ) (b : Bool) (ns : List (List ℕ)) → length ns ≤ t →
+    AllByRecursion GoodName ns →
+    Runs c (more (left t p v b)) (map name ns) (more (left (t - length ns) p v b))
 names_run c t p v b [] h g = let e : t - 0 ≡ t = omega arith in rw e refl
 names_run c t p v b (n ∷ ns) h g =
     let e : t - 1 - length ns ≡ t - suc (length ns) = omega arith in
     let i = names_run c (t - 1) p v b ns (omega arith) g.1 in
     ((omega arith, g.0), subst (λ z. Runs c (more (left (t - 1) p v b)) (map name ns) (more (left z p v b))) e i)
 
-or_assoc : (a b d : Bool) → ((a || b) || d) ≡ (a || (b || d))
-or_assoc true b d = refl
-or_assoc false b d = refl
-
-or_false : (a : Bool) → (a || false) ≡ a
-or_false true = refl
-or_false false = refl
-
-pub params_run : (c t v : ℕ) (b : Bool) (ps : List ℕ) → length ps ≤ t → AllByRecursion (GoodParam c) ps → Runs c (more (left 0 t v b)) (map param ps) (more (left 0 (t - length ps) v (b || names_column ps)))
-params_run c t v b [] h g = let e : t - 0 ≡ t = omega arith in let f = or_false b in let k : left 0 t v b ≡ left 0 (t - 0) v (b || false) = cc in ap more k
+pub params_run : (c t v : ℕ) (b : Bool) (ps : List ℕ) → length ps ≤ t →
+    AllByRecursion (GoodParam c) ps →
+    Runs c (more (left 0 t v b)) (map param ps)
+    (more (left 0 (t - length ps) v (b || names_column ps)))
+params_run c t v b [] h g =
+    let e : t - 0 ≡ t = omega arith in let f = or-false b in let k : left 0 t v b ≡ left 0 (t - 0) v (b || false) = cc in ap more k
 params_run c t v b (p ∷ ps) h g =
     let e : t - 1 - length ps ≡ t - suc (length ps) = omega arith in
     let i = params_run c (t - 1) v (b || not (eqb p 0)) ps (omega arith) g.1 in
     let j = subst (λ z. Runs c (more (left 0 (t - 1) v (b || not (eqb p 0)))) (map param ps) (more (left 0 z v ((b || not (eqb p 0)) || names_column ps)))) e i in
     ((refl, omega arith, g.0), subst (λ z. Runs c (more (left 0 (t - 1) v (b || not (eqb p 0)))) (map param ps) (more (left 0 (t - suc (length ps)) v z))) (or_assoc b (not (eqb p 0)) (names_column ps)) j)
 
-pub values_run : (c t : ℕ) (b : Bool) (vs : List Value) → length vs ≤ t → AllByRecursion GoodValue vs → Runs c (more (left 0 0 t b)) (map value vs) (more (left 0 0 (t - length vs) b))
+pub values_run : (c t : ℕ) (b : Bool) (vs : List Value) → length vs ≤ t →
+    AllByRecursion GoodValue vs →
+    Runs c (more (left 0 0 t b)) (map value vs) (more (left 0 0 (t - length vs) b))
 values_run c t b [] h g = let e : t - 0 ≡ t = omega arith in rw e refl
 values_run c t b (v ∷ vs) h g =
     let e : t - 1 - length vs ≡ t - suc (length vs) = omega arith in
     let i = values_run c (t - 1) b vs (omega arith) g.1 in
     ((refl, refl, omega arith, g.0), subst (λ z. Runs c (more (left 0 0 (t - 1) b)) (map value vs) (more (left 0 0 z b))) e i)
 
-pub outcomes_run : (c : ℕ) (b : Bool) (os : List Outcome) → AllByRecursion (GoodOutcome c) os → AllByRecursion (Suits b) os → Runs c (more (left 0 0 0 b)) (flat_map heads os) (more (left 0 0 0 b))
+pub outcomes_run : (c : ℕ) (b : Bool) (os : List Outcome) → AllByRecursion (GoodOutcome c) os →
+    AllByRecursion (Suits b) os →
+    Runs c (more (left 0 0 0 b)) (flat_map heads os) (more (left 0 0 0 b))
 outcomes_run c b [] g u = refl
 outcomes_run c b (row vs ∷ os) g u =
     let many = g.0.0 in
@@ -233,9 +217,13 @@ outcomes_run c b (row vs ∷ os) g u =
     let v = subst (λ z. Runs c (more (left 0 0 c b)) (map value vs) (more (left 0 0 z b))) e (values_run c c b vs (omega arith) g.0.1) in
     ((refl, refl, refl, (tt, tt)), runs_append c (more (left 0 0 c b)) (more (left 0 0 0 b)) (more (left 0 0 0 b)) (map value vs) (flat_map heads os) v (outcomes_run c b os g.1 u.1))
 outcomes_run c b (done ∷ os) g u = ((refl, refl, refl, (u.0, tt)), outcomes_run c b os g.1 u.1)
-outcomes_run c b (failed code ∷ os) g u = ((refl, refl, refl, (u.0, g.0)), outcomes_run c b os g.1 u.1)
+outcomes_run c b (failed code ∷ os) g u =
+    ((refl, refl, refl, (u.0, g.0)), outcomes_run c b os g.1 u.1)
 
-pub tail_runs : (c : ℕ) (ns : List (List ℕ)) (ps : List ℕ) (os : List Outcome) → AllByRecursion GoodName ns → AllByRecursion (GoodParam c) ps → AllByRecursion (GoodOutcome c) os → AllByRecursion (Suits (names_column ps)) os → Runs c (more (left (length ns) (length ps) 0 false)) (tail_lines ns ps [] os) nothing
+pub tail_runs : (c : ℕ) (ns : List (List ℕ)) (ps : List ℕ) (os : List Outcome) →
+    AllByRecursion GoodName ns → AllByRecursion (GoodParam c) ps →
+    AllByRecursion (GoodOutcome c) os → AllByRecursion (Suits (names_column ps)) os →
+    Runs c (more (left (length ns) (length ps) 0 false)) (tail_lines ns ps [] os) nothing
 tail_runs c ns ps os f g h u =
     let b = names_column ps in
     let en : length ns - length ns ≡ 0 = omega arith in
@@ -274,10 +262,12 @@ plain zero h = (omega arith, omega arith)
 plain (suc k) h = absurd (omega arith)
 
 -- With no parameter left the table is as it is.
-suits_none : (b : Bool) (ps : List ℕ) (os : List Outcome) → ps ≡ [] → AllByRecursion (Suits (b || names_column ps)) os → AllByRecursion (Suits (b || false)) os
+suits_none : (b : Bool) (ps : List ℕ) (os : List Outcome) → ps ≡ [] →
+    AllByRecursion (Suits (b || names_column ps)) os → AllByRecursion (Suits (b || false)) os
 suits_none b ps os e h = subst (λ z. AllByRecursion (Suits (b || names_column z)) os) e h
 
-pub content : (c : ℕ) (l : Left) (xs : List Line) (q : Want) → Runs c (more l) xs q → Content c l xs q
+pub content : (c : ℕ) (l : Left) (xs : List Line) (q : Want) → Runs c (more l) xs q →
+    Content c l xs q
 content c l [] q r =
     record {
       ns = replicate l.names (33 ∷ []);
@@ -404,7 +394,7 @@ content c l (head Done ∷ xs) q r =
       good_ps = tt;
       good_vs = tt;
       good_os = (tt, k.good_os);
-      suit_os = (or_false l.table ∙ r.0.3.0, suits_none l.table k.ps k.os zp k.suit_os);
+      suit_os = (or-false l.table ∙ r.0.3.0, suits_none l.table k.ps k.os zp k.suit_os);
       is = ap (λ l. head Done ∷ l) i;
     }
 content c l (head (Failed code) ∷ xs) q r =
@@ -424,7 +414,7 @@ content c l (head (Failed code) ∷ xs) q r =
       good_ps = tt;
       good_vs = tt;
       good_os = (r.0.3.1, k.good_os);
-      suit_os = (or_false l.table ∙ r.0.3.0, suits_none l.table k.ps k.os zp k.suit_os);
+      suit_os = (or-false l.table ∙ r.0.3.0, suits_none l.table k.ps k.os zp k.suit_os);
       is = ap (λ l. head (Failed code) ∷ l) i;
     }
 content c l (head End ∷ []) q r =

@@ -1,36 +1,26 @@
 -- The rendering of a sheet by its lines, and what a line that cannot come says of the whole.
-use Rattle.std.proofs.Common.{◌≡◌, ℕ, suc, ◌+◌, ◌-◌, ◌^◌, ◌<◌, ◌≤◌, false, List, [], ◌∷◌, ◌++◌, map, length, take, decimal, sym, refl, ap, ◌∙◌, subst, ⊎_elim, append_assoc, arith, length-append}
+use Rattle.std.proofs.Common.{◌≡◌, ℕ, suc, ◌+◌, ◌-◌, ◌^◌, ◌<◌, ◌≤◌, false, List, [], ◌∷◌, ◌++◌, map, length, take, sym, refl, ap, ◌∙◌, subst, ⊎_elim, append_assoc, arith, length-append}
 use Rattle.std.specs.List.{flat_map, AllByRecursion}
 use Rattle.std.proofs.lemmas.List.{map-append, take-map, take_at, take_all, length-take-le, nil_from_length}
+use Rattle.std.proofs.lemmas.Simd.{map-map}
+use Rattle.std.proofs.lemmas.List.Folds.{flat_map-map}
 use Rattle.std.proofs.lemmas.Bool.{cases_lt}
-use Rattle.values.specs.Value.{Value}
 use Rattle.host.specs.Outcome.{Outcome, row, done, failed}
-use Rattle.figures.proofs.Steps.{figure_free}
-use Rattle.sheet.proofs.Parts.{flat_heading}
-use Rattle.sheet.proofs.Runs.{Line, name, param, value, head, written, Left, left, Want, more, nothing, Fits, Runs, runs_take, follow, heads, tail_lines, tail_runs, content}
-use Rattle.sheet.specs.Sheet.{Sheet, heading_of, rendered_heading, rendered_name, rendered_param, rendered_value, outcome_lines, body_lines, render, together, GoodHeading, GoodParam, GoodOutcome, WellFormed, RefusedAt}
-use Rattle.sheet.specs.Lines.{Lacks}
+use Rattle.sheet.proofs.Decoded.{heading_at_lem}
+use Rattle.sheet.specs.Decode.{figure_at, first_at}
+use Rattle.sheet.proofs.Runs.{Free, free_by, Line, name, param, value, head, written, Left, left, Want, more, nothing, Fits, Runs, runs_take, follow, heads, tail_lines, tail_runs, content}
+use Rattle.sheet.specs.Sheet.{Sheet, heading_of, rendered_heading, outcome_lines, body_lines, render, together, GoodHeading, GoodParam, GoodOutcome, WellFormed, RefusedAt}
+use Rattle.figures.specs.Reading.{Lacks}
 use Rattle.sheet.specs.declared.lines.Heading.{Heading}
 use Rattle.sheet.specs.declared.lines.Head.TheVariants.{End}
 
-written_names : (ns : List (List ℕ)) → map rendered_name ns ≡ map written (map name ns)
-written_names [] = refl
-written_names (n ∷ ns) = ap (λ l. rendered_name n ∷ l) (written_names ns)
-
-written_params : (ps : List ℕ) → map rendered_param ps ≡ map written (map param ps)
-written_params [] = refl
-written_params (p ∷ ps) = ap (λ l. rendered_param p ∷ l) (written_params ps)
-
-written_values : (vs : List Value) → map rendered_value vs ≡ map written (map value vs)
-written_values [] = refl
-written_values (v ∷ vs) = ap (λ l. rendered_value v ∷ l) (written_values vs)
-
 written_outcome : (o : Outcome) → outcome_lines o ≡ map written (heads o)
-written_outcome (row vs) = ap (λ l. (82 ∷ (10 ∷ [])) ∷ l) (written_values vs)
+written_outcome (row vs) = ap (λ l. (82 ∷ (10 ∷ [])) ∷ l) (sym (map-map written value vs))
 written_outcome done = refl
 written_outcome (failed code) = refl
 
-pub written_outcomes : (os : List Outcome) → flat_map outcome_lines os ≡ map written (flat_map heads os)
+pub written_outcomes : (os : List Outcome) →
+    flat_map outcome_lines os ≡ map written (flat_map heads os)
 written_outcomes [] = refl
 written_outcomes (o ∷ os) =
     let a = written_outcome o in
@@ -44,52 +34,36 @@ written_body os =
     let m = map-append written (flat_map heads os) (head End ∷ []) in
     cc
 
-written_sheet : (s : Sheet) → render s ≡ rendered_heading (heading_of s) ∷ map written (tail_lines s.names s.params [] s.outcomes)
+written_sheet : (s : Sheet) →
+    render s ≡ rendered_heading (heading_of s) ∷ map written
+    (tail_lines s.names s.params [] s.outcomes)
 unfolding render
 written_sheet s =
-    let a = written_names s.names in
+    let a = map-map written name s.names in
     let b = written_body s.outcomes in
-    let d = written_params s.params in
+    let d = map-map written param s.params in
     let m = map-append written (map name s.names) (map param s.params ++ tail_lines [] [] [] s.outcomes) in
     let n = map-append written (map param s.params) (tail_lines [] [] [] s.outcomes) in
     ap (λ l. rendered_heading (heading_of s) ∷ l) (cc)
 
-pub together_map : (xs : List Line) → together (map written xs) ≡ flat_map written xs
-together_map [] = refl
-together_map (x ∷ xs) = ap (λ l. written x ++ l) (together_map xs)
-
-pub joined_append : (xs ys : List Line) → flat_map written (xs ++ ys) ≡ flat_map written xs ++ flat_map written ys
-joined_append [] ys = refl
-joined_append (x ∷ xs) ys = ap (λ l. written x ++ l) (joined_append xs ys) ∙ sym (append_assoc (written x) (flat_map written xs) (flat_map written ys))
-
-abbrev heading : ℕ → ℕ → ℕ → Heading
+abbrev pub heading : ℕ → ℕ → ℕ → Heading
 heading c p m = record { columns = c; parameters = p; copy_limit = m }
 
-heading_same : (a b c d e f : ℕ) → a ≡ d → b ≡ e → c ≡ f → heading a b c ≡ heading d e f
+pub heading_same : (a b c d e f : ℕ) → a ≡ d → b ≡ e → c ≡ f → heading a b c ≡ heading d e f
 heading_same a b c d e f x y z = cc
 
--- A heading is read in one way.
-heading_free : (h k : Heading) (r t : List ℕ) → GoodHeading h → GoodHeading k → rendered_heading h ++ r ≡ rendered_heading k ++ t → (h ≡ k) × (r ≡ t)
-heading_free h k r t f g e =
-    let e' = sym (flat_heading h r) ∙ (e ∙ flat_heading k t) in
-    let f0 = f.0 in
-    let f1 = f.1 in
-    let f2 = f.2 in
-    let g0 = g.0 in
-    let g1 = g.1 in
-    let g2 = g.2 in
-    let x = figure_free h.columns k.columns 32 32 (decimal h.parameters ++ (32 ∷ (decimal h.copy_limit ++ (10 ∷ r)))) (decimal k.parameters ++ (32 ∷ (decimal k.copy_limit ++ (10 ∷ t)))) (omega arith) (omega arith) (omega arith) (omega arith) e' in
-    let y = figure_free h.parameters k.parameters 32 32 (decimal h.copy_limit ++ (10 ∷ r)) (decimal k.copy_limit ++ (10 ∷ t)) (omega arith) (omega arith) (omega arith) (omega arith) x.rests in
-    let z = figure_free h.copy_limit k.copy_limit 10 10 r t (omega arith) (omega arith) (omega arith) (omega arith) y.rests in
-    (heading_same h.columns h.parameters h.copy_limit k.columns k.parameters k.copy_limit x.figures y.figures z.figures, z.rests)
+heading_free : Free rendered_heading GoodHeading
+heading_free = free_by rendered_heading GoodHeading (λ l. first_at (figure_at 0 l)) heading_at_lem
 
 -- The first lines of a sheet.
-front_lines : (s : Sheet) (n : ℕ) → together (take (suc n) (render s)) ≡ rendered_heading (heading_of s) ++ flat_map written (take n (tail_lines s.names s.params [] s.outcomes))
+front_lines : (s : Sheet) (n : ℕ) →
+    together (take (suc n) (render s)) ≡ rendered_heading (heading_of s) ++ flat_map written
+    (take n (tail_lines s.names s.params [] s.outcomes))
 front_lines s n =
     let t = tail_lines s.names s.params [] s.outcomes in
     let a = ap (λ l. together (take (suc n) l)) (written_sheet s) in
     let b = ap together (take-map written n t) in
-    let m = together_map (take n t) in
+    let m = flat_map-map (λ l. l) written (take n t) in
     a ∙ ap (λ l. rendered_heading (heading_of s) ++ l) (b ∙ m)
 
 -- Refused: the lines so far are the front of some sheet, and no next line is.
@@ -109,9 +83,12 @@ refused_first s no-heading =
           no-heading (heading_of x) b.rest b.good.heading (b.begins ∙ (ap (λ l. l ++ b.rest) f ∙ a));
     }
 
-no_step : (c : ℕ) (l : Left) (rest : List Line) (q : Want) (r t : List ℕ) → Lacks written (Fits c l) r → Runs c (more l) rest q → 0 < length rest → r ≡ flat_map written rest ++ t → ⊥
+no_step : (c : ℕ) (l : Left) (rest : List Line) (q : Want) (r t : List ℕ) →
+    Lacks written (Fits c l) r → Runs c (more l) rest q → 0 < length rest →
+    r ≡ flat_map written rest ++ t → ⊥
 no_step c l [] q r t lacks runs some e = omega arith
-no_step c l (x ∷ xs) q r t lacks runs some e = lacks x (flat_map written xs ++ t) runs.0 (e ∙ append_assoc (written x) (flat_map written xs) t)
+no_step c l (x ∷ xs) q r t lacks runs some e =
+    lacks x (flat_map written xs ++ t) runs.0 (e ∙ append_assoc (written x) (flat_map written xs) t)
 
 no_more : (c : ℕ) (l : Left) (rest : List Line) → Runs c nothing rest (more l) → ⊥
 no_more c l [] e = let z : ◌≡◌ {A = ℕ} 0 1 = cc in omega arith
@@ -128,7 +105,8 @@ record Fronted (h : Heading) (xs : List Line) : Type 0 where
   rest : List Line
   lines : tail_lines sheet.names sheet.params [] sheet.outcomes ≡ xs ++ rest
 
-fronted : (h : Heading) (xs : List Line) (l : Left) → GoodHeading h → Runs h.columns (more (begin h)) xs (more l) → Fronted h xs
+fronted : (h : Heading) (xs : List Line) (l : Left) → GoodHeading h →
+    Runs h.columns (more (begin h)) xs (more l) → Fronted h xs
 fronted h xs l good runs =
     let k = content h.columns (begin h) xs (more l) runs in
     let many = k.many_ns in
@@ -152,10 +130,16 @@ fronted h xs l good runs =
       lines = is;
     }
 
-sheet_runs : (s : Sheet) → WellFormed s → Runs (length s.names) (more (begin (heading_of s))) (tail_lines s.names s.params [] s.outcomes) nothing
-sheet_runs s g = tail_runs (length s.names) s.names s.params s.outcomes g.names g.params g.outcomes g.rows
+sheet_runs : (s : Sheet) → WellFormed s →
+    Runs (length s.names) (more (begin (heading_of s))) (tail_lines s.names s.params [] s.outcomes)
+    nothing
+sheet_runs s g =
+    tail_runs (length s.names) s.names s.params s.outcomes g.names g.params g.outcomes g.rows
 
-pub refused : (h : Heading) (s r : List ℕ) (xs : List Line) (l : Left) → GoodHeading h → Runs h.columns (more (begin h)) xs (more l) → s ≡ rendered_heading h ++ (flat_map written xs ++ r) → Lacks written (Fits h.columns l) r → RefusedAt s (length xs + 2)
+pub refused : (h : Heading) (s r : List ℕ) (xs : List Line) (l : Left) → GoodHeading h →
+    Runs h.columns (more (begin h)) xs (more l) →
+    s ≡ rendered_heading h ++ (flat_map written xs ++ r) → Lacks written (Fits h.columns l) r →
+    RefusedAt s (length xs + 2)
 refused h s r xs l good runs e lacks =
     let k = fronted h xs l good runs in
     let n = length xs in

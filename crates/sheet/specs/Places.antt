@@ -1,20 +1,24 @@
--- Where the parts of an accepted sheet stand, and what playing its outcomes answers.
-use Rattle.std.specs.Prelude.{◌≡◌, ℕ, ◌<◌, ◌≤◌, Bool, List, [], ◌∷◌, ◌++◌, length, drop, Option, MatchOption, slice_index_or}
+-- What the parts of an accepted sheet are, and what playing its outcomes answers.
+use Rattle.std.specs.Prelude.{◌≡◌, ℕ, zero, suc, ◌<◌, ◌≤◌, Bool, List, [], ◌∷◌, ◌++◌, length, Option, None, MatchOption, slice_index_or}
 use Rattle.std.specs.Borrow.{Bor}
 use Rattle.std.specs.List.{flat_map, AllByRecursion}
 use Rattle.host.specs.Outcome.{Outcome, row, done, failed}
-use Rattle.sheet.specs.Sheet.{Sheet, rendered_name, rendered_value, body_lines, render, together, GoodOutcome, names_column, Holds}
+use Rattle.sheet.specs.Sheet.{Sheet, heading_of, rendered_heading, rendered_name, rendered_param, rendered_value, body_lines, render, together, GoodOutcome, names_column, Holds}
 use Rattle.sheet.specs.declared.play.Played.{Played}
-use Rattle.sheet.specs.declared.play.Played.TheVariants.{Row, Done, Failed, End}
+use Rattle.sheet.specs.declared.play.Move.{Move}
+use Rattle.sheet.specs.declared.play.Move.TheVariants.{Row, Done, Failed}
 
--- The outcomes os, good ones of so many columns, and then the last line stand at place p of s.
-pub record At (s : List ℕ) (columns p : ℕ) (os : List Outcome) : Type 0 where
+-- The outcomes os, good ones of so many columns, and then the last line stand at the front of s.
+pub record At (s : List ℕ) (columns : ℕ) (os : List Outcome) : Type 0 where
   pub good : AllByRecursion (GoodOutcome columns) os
   pub rest : List ℕ
-  pub begins : drop p s ≡ together (body_lines os) ++ rest
+  pub begins : s ≡ together (body_lines os) ++ rest
 
--- s holds one sheet, of which these are the figures; the lines of its names begin at `names`, those of its outcomes at `outcomes`, and its last line ends at `end`.
-pub record Accepted (s : List ℕ) (columns parameters copies names outcomes end : ℕ) (table : Bool) : Type 0 where
+-- s holds one sheet, of which these are the figures.
+-- From `names` on stand its names, its parameters and its outcomes, from `outcomes` on the latter.
+-- Behind the last line stands `rest`.
+pub record Accepted (s : List ℕ) (columns parameters copies : ℕ)
+    (names outcomes rest : List ℕ) (table : Bool) : Type 0 where
   pub sheet : Sheet
   pub holds : Holds s sheet
   pub only : (other : Sheet) → Holds s other → other ≡ sheet
@@ -22,20 +26,43 @@ pub record Accepted (s : List ℕ) (columns parameters copies names outcomes end
   pub parameters_is : parameters ≡ length sheet.params
   pub copies_is : copies ≡ sheet.copy_limit
   pub table_is : table ≡ names_column sheet.params
-  pub names_from : (rest : List ℕ) × (drop names s ≡ flat_map rendered_name sheet.names ++ rest)
-  pub names_within : names ≤ length s
-  pub outcomes_from : At s columns outcomes sheet.outcomes
-  pub outcomes_within : outcomes ≤ length s
-  pub end_is : end ≡ length (together (render sheet))
-  pub end_within : end ≤ length s
+  pub begins : s ≡ rendered_heading (heading_of sheet) ++ names
+  pub names_are :
+      names ≡ flat_map rendered_name sheet.names ++ (flat_map rendered_param sheet.params ++ outcomes)
+  pub outcomes_are : At outcomes columns sheet.outcomes
+  pub ends : outcomes ≡ together (body_lines sheet.outcomes) ++ rest
+  pub whole : s ≡ together (render sheet) ++ rest
 
 -- The name of column i, counted from 0, or nothing past the last column.
 abbrev pub ByName : Option (Bor (List ℕ)) → List (List ℕ) → ℕ → Type 0
-ByName r names i = MatchOption r (length names ≤ i) (λ name. (i < length names) × (name.now ≡ slice_index_or names i []))
+ByName r names i =
+    MatchOption r (length names ≤ i)
+    (λ name. (i < length names) × (name.now ≡ slice_index_or names i []))
 
--- What playing the next outcome answers, where the outcomes os stand: the place of the next one, and of a row also the place of its first value.
-abbrev pub Plays : List ℕ → ℕ → List Outcome → Played → Type 0
-Plays s columns [] r = r ≡ End
-Plays s columns (row vs ∷ os) r = (v : ℕ) × (q : ℕ) × (r ≡ Row v q) × (drop v s ≡ flat_map rendered_value vs ++ drop q s) × At s columns q os
-Plays s columns (done ∷ os) r = (q : ℕ) × (r ≡ Done q) × At s columns q os
-Plays s columns (failed code ∷ os) r = (q : ℕ) × (r ≡ Failed code q) × At s columns q os
+-- An outcome as it is played: a row by the bytes that begin with its values;
+-- next is what stands behind them.
+abbrev pub PlayedAs : Outcome → Move → List ℕ → Type 0
+PlayedAs (row vs) (Row values) next = values.now ≡ flat_map rendered_value vs ++ next
+PlayedAs (row vs) Done next = ⊥
+PlayedAs (row vs) (Failed c) next = ⊥
+PlayedAs done (Row values) next = ⊥
+PlayedAs done Done next = Unit {0}
+PlayedAs done (Failed c) next = ⊥
+PlayedAs (failed code) (Row values) next = ⊥
+PlayedAs (failed code) Done next = ⊥
+PlayedAs (failed code) (Failed c) next = c ≡ code
+
+-- What playing the next outcome answers, where the outcomes os stand:
+-- it and what stands behind it; past the last one nothing.
+abbrev pub Plays : ℕ → List Outcome → Option Played → Type 0
+Plays columns [] r = MatchOption r (Unit {0}) (λ p. ⊥)
+Plays columns (o ∷ os) r = MatchOption r ⊥ (λ p. PlayedAs o p.outcome p.next.now × At p.next.now columns os)
+
+-- What stands behind so many lines of a kind in front of s.
+-- Read says what reading one of them gives.
+abbrev pub Behind : {T : Type 0} → (Bor (List ℕ) → Option (T × Bor (List ℕ)) → Type 0) →
+    List ℕ → ℕ → Option (Bor (List ℕ)) → Type 0
+Behind Read s zero r = MatchOption r ⊥ (λ rest. rest.now ≡ s)
+Behind {T} Read s (suc n) r =
+    (b : Bor (List ℕ)) × (o : Option (T × Bor (List ℕ))) × (b.now ≡ s) × Read b o ×
+    MatchOption o (r ≡ None) (λ p. Behind Read p.1.now n r)

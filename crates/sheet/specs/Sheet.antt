@@ -1,11 +1,12 @@
 -- The content of a sheet, how it is written, what it may hold, and when bytes hold it.
-use Rattle.std.specs.Prelude.{◌≡◌, ℕ, ◌-◌, ◌%◌, ◌^◌, ◌<◌, ◌≤◌, Bool, false, not, ◌||◌, List, [], ◌∷◌, ◌++◌, map, length, take, decimal, ◌==◌, ◌≢◌, slice_index}
+use Rattle.std.specs.Prelude.{◌≡◌, ℕ, ◌-◌, ◌^◌, ◌<◌, ◌≤◌, Bool, false, not, ◌||◌, List, [], ◌∷◌, ◌++◌, map, length, take, decimal, ◌==◌, ◌≢◌, slice_index}
 use Rattle.std.specs.Int.Signed.{mag}
 use Rattle.std.specs.Int.{IsInRange}
 use Rattle.std.specs.Fmt.{signed_decimal}
 use Rattle.std.specs.List.{flat_map, AllByRecursion}
 use Rattle.values.specs.Value.{Value, null, long, double, text, blob}
 use Rattle.host.specs.Outcome.{Outcome, row, done, failed}
+use Rattle.figures.specs.Figures.{piece_line, Numeric}
 use Rattle.sheet.specs.declared.lines.Heading.{Heading}
 
 -- The names of the columns, the column of each parameter (from 1; 0: none), how many copies may live, and the outcomes.
@@ -24,10 +25,6 @@ heading_of s = record { columns = length s.names; parameters = length s.params; 
 -- `1 1 4`
 abbrev pub rendered_heading : Heading → List ℕ
 rendered_heading h = decimal h.columns ++ (32 ∷ (decimal h.parameters ++ (32 ∷ (decimal h.copy_limit ++ (10 ∷ [])))))
-
--- A length, a space, so many bytes and the end of the line.
-abbrev pub piece_line : List ℕ → List ℕ
-piece_line bs = decimal (length bs) ++ (32 ∷ (bs ++ (10 ∷ [])))
 
 -- `C 2 id`
 abbrev pub rendered_name : List ℕ → List ℕ
@@ -92,10 +89,6 @@ GoodName name = (1 ≤ length name) × (length name ≤ 32) × ((k : ℕ) → k 
 -- One of so many columns, from 1, or 0.
 abbrev pub GoodParam : ℕ → ℕ → Type 0
 GoodParam columns column = column ≤ columns
-
--- The bit pattern of a number: without its sign, no more than infinity's.
-abbrev pub Numeric : ℕ → Type 0
-Numeric bits = bits % 2 ^ 63 ≤ 9218868437227405312
 
 -- A signed 64-bit number, a 64-bit pattern that is no NaN, at most 4,096 bytes.
 abbrev pub GoodValue : Value → Type 0

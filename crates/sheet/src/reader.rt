@@ -1,14 +1,12 @@
 // A reader that moves over a lent sheet line by line, and copies nothing.
-ghost use Rattle.std.specs.Prelude.{◌+◌, ◌≤◌, length};
+ghost use Rattle.std.specs.Prelude.{◌+◌, ◌^◌, ◌≤◌, length};
 
 pub mod reading;
 
-// The next line begins at byte `place`, and is line `line`, counted from 1.
+// The bytes that are left of the sheet, and which line they begin with, counted from 1.
 #[derive(Clone, Copy)]
 pub struct SheetReader<'a> {
-    bytes: &'a [u8],
-    place: usize,
+    pub(crate) rest: &'a [u8],
     line: u64,
-    ghost within: { place ≤ length bytes.now },
-    ghost counted: { line ≤ place + 1 },
+    ghost counted: { line + length rest.now ≤ 2 ^ 63 },
 }

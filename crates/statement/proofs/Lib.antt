@@ -1,2 +1,1 @@
-pub mod Taken
-mod Called
+mod Taken

@@ -1,17 +1,18 @@
 -- What each call answers, and what the statement and the room are afterwards.
-use Rattle.std.specs.Prelude.{ℕ, ◌+◌, Bool, not, ◌&&◌, ◌||◌, List, [], ◌∷◌, ◌++◌, length, take, Some, None, Ok, Err, Option, Result, ◌==◌, nat_lt}
+use Rattle.std.specs.Prelude.{ℕ, ◌+◌, Bool, false, not, ◌&&◌, ◌||◌, List, [], ◌∷◌, ◌++◌, length, take, Some, None, Ok, Err, Option, Result, is_some, ◌==◌, nat_lt}
 use Rattle.values.specs.Order.{first_of}
 use Rattle.host.specs.Meaning.{Meaning, step_answer, step_after}
 use Rattle.host.specs.declared.Stepped.{Stepped}
 use Rattle.host.specs.declared.StepFault.{StepFault}
-use Rattle.statement.specs.declared.stmt.Binding.TheVariants.{AtRest, Unstepped}
+use Rattle.statement.specs.declared.stmt.Binding.{Binding}
+use Rattle.statement.specs.declared.stmt.Report.{Report}
 use Rattle.statement.specs.declared.stmt.Lengths.{Lengths}
 use Rattle.statement.specs.declared.stmt.Executed.{Executed}
 use Rattle.binds.specs.declared.refusal.Refusal.{Refusal}
 use Rattle.binds.specs.declared.refusal.Refusal.TheVariants.{WrongState, Length, RowHeld, TooManyValues, Outside, RoomShort, StepFailed, StepsSpent}
 use Rattle.binds.specs.Pairs.{Pair, all_inside, owned_count, total_room_bytes, leases_from, byte_slots, written_room}
 use Rattle.binds.specs.Leases.{zeroed}
-use Rattle.statement.specs.State.{State, is_current, with_host}
+use Rattle.statement.specs.State.{State, with_host}
 use Rattle.binds.specs.Cleared.{cleared}
 use Rattle.binds.specs.Tried.{Tried, bind_from, refusal_at}
 use Rattle.binds.specs.declared.taking.Unbindable.{Unbindable}
@@ -23,21 +24,21 @@ too_long txt given room = nat_lt 65536 txt || (nat_lt 65536 given || nat_lt 6553
 -- Bind. What is tested before any value is bound, in this order.
 abbrev pub may_bind_tests : State → List Pair → List ℕ → List ℕ → ℕ → List (Bool × Refusal)
 may_bind_tests s ps txt given room =
-    (is_current s.binding, WrongState)
+    (is_some s.binding, WrongState)
     ∷ (nat_lt 0 s.held, RowHeld)
     ∷ (too_long (length txt) (length given) room, Length)
     ∷ (nat_lt 32 (length ps), TooManyValues)
     ∷ (not (all_inside (length txt) (length given) ps), Outside)
     ∷ []
 
--- The answer of tests that ask for nothing more.
-abbrev pub test_answer : Option Refusal → Result (Unit {0}) Refusal
-test_answer None = Ok tt
-test_answer (Some r) = Err r
+-- What tests answer: the refusal of the first that holds, or else a value.
+abbrev pub test_answer : {T : Type 0} → Option Refusal → T → Result T Refusal
+test_answer None x = Ok x
+test_answer (Some r) x = Err r
 
--- The answer of bind's first tests.
-unfoldable pub may_bind_answer : State → List Pair → List ℕ → List ℕ → ℕ → Result (Unit {0}) Refusal
-may_bind_answer s ps txt given room = test_answer (first_of (may_bind_tests s ps txt given room))
+-- The answer of bind's first tests: the values, which are few enough.
+abbrev pub may_bind_answer : State → List Pair → List ℕ → List ℕ → ℕ → Result (List Pair) Refusal
+may_bind_answer s ps txt given room = test_answer (first_of (may_bind_tests s ps txt given room)) ps
 
 -- All tests before any value is bound: the owned values must fit the room, too.
 abbrev pub bind_tests : State → List Pair → List ℕ → List ℕ → ℕ → List (Bool × Refusal)
@@ -59,7 +60,7 @@ undone t ps = cleared t.host (byte_slots 1 (take t.bound ps))
 
 -- A statement that has taken the values up.
 abbrev pub taken_state : State → List Pair → Meaning → State
-taken_state s ps m = record { host = m; binding = s.binding; held = s.held; query = s.query; leases = leases_from 0 ps; nulls = byte_slots 1 ps; lengths = s.lengths; steps = s.steps; report = s.report }
+taken_state s ps m = record { host = m; binding = s.binding; held = s.held; leases = leases_from 0 ps; nulls = byte_slots 1 ps; steps = s.steps; report = s.report }
 
 -- The statement once the values were tried: taken up, or undone.
 abbrev pub why_taken : Option Unbindable → State → List Pair → Tried → State
@@ -71,14 +72,18 @@ abbrev pub taken_by : Option Refusal → State → List Pair → Tried → State
 taken_by (Some r) s ps t = s
 taken_by None s ps t = why_taken t.why s ps t
 
--- Its binding is current, for a query, on a text and a room of these lengths.
-abbrev pub current_state : State → ℕ → Lengths → State
-current_state s query ls = record { host = s.host; binding = Unstepped; held = s.held; query = query; leases = s.leases; nulls = s.nulls; lengths = ls; steps = s.steps; report = s.report }
+-- A binding for a query, on a text and a room.
+abbrev pub binding_on : ℕ → List ℕ → List ℕ → Binding
+binding_on query txt room = record { query = query; lengths = record { text = length txt; room = length room } }
+
+-- The statement with a binding current.
+abbrev pub current_state : State → Binding → State
+current_state s b = record { host = s.host; binding = Some b; held = s.held; leases = s.leases; nulls = s.nulls; steps = s.steps; report = s.report }
 
 -- An accepted bind makes its binding current.
-abbrev pub bound_if : Result ℕ Refusal → State → ℕ → Lengths → State
-bound_if (Ok n) s query ls = current_state s query ls
-bound_if (Err r) s query ls = s
+abbrev pub bound_if : Result ℕ Refusal → State → Binding → State
+bound_if (Ok n) s b = current_state s b
+bound_if (Err r) s b = s
 
 -- The room: as it was, with the values in it, or with their leases zeroed again.
 abbrev pub why_leaves : Option Unbindable → List Pair → List ℕ → List ℕ → List ℕ
@@ -101,7 +106,7 @@ bind_says s ps txt given room = says_by (first_of (bind_tests s ps txt given (le
 -- The statement after bind.
 unfoldable pub bind_goes : State → ℕ → List Pair → List ℕ → List ℕ → List ℕ → State
 bind_goes s query ps txt given room =
-    bound_if (bind_says s ps txt given room) (taken_by (first_of (bind_tests s ps txt given (length room))) s ps (tried_of s ps)) query (record { text = length txt; room = length room })
+    bound_if (bind_says s ps txt given room) (taken_by (first_of (bind_tests s ps txt given (length room))) s ps (tried_of s ps)) (binding_on query txt room)
 
 -- The room after bind.
 unfoldable pub bind_leaves : State → List Pair → List ℕ → List ℕ → List ℕ → List ℕ
@@ -112,35 +117,45 @@ abbrev pub take_tests : List Pair → ℕ → List (Bool × Refusal)
 take_tests ps room = (nat_lt room (total_room_bytes ps), RoomShort) ∷ []
 
 -- What taking the values up answers.
-unfoldable pub take_says : State → List Pair → List ℕ → Result ℕ Refusal
+abbrev pub take_says : State → List Pair → List ℕ → Result ℕ Refusal
 take_says s ps room = says_by (first_of (take_tests ps (length room))) ps (tried_of s ps)
 
 -- The statement after taking them up.
-unfoldable pub take_goes : State → List Pair → List ℕ → State
+abbrev pub take_goes : State → List Pair → List ℕ → State
 take_goes s ps room = taken_by (first_of (take_tests ps (length room))) s ps (tried_of s ps)
 
 -- The room after taking them up.
-unfoldable pub take_leaves : State → List Pair → List ℕ → List ℕ → List ℕ
+abbrev pub take_leaves : State → List Pair → List ℕ → List ℕ → List ℕ
 take_leaves s ps given room = leaves_by (first_of (take_tests ps (length room))) ps (tried_of s ps) given room
+
+-- The report of a binding, by its query's number.
+abbrev pub report_of : Option Binding → ℕ → Option Report
+report_of None code = None
+report_of (Some b) code = Some (record { query = b.query; code = code })
 
 -- The return of a binding: the host cleared, the leases given back, and one report.
 abbrev pub returned_state : State → ℕ → State
-returned_state s code = record { host = cleared s.host s.nulls; binding = AtRest; held = s.held; query = s.query; leases = []; nulls = []; lengths = s.lengths; steps = s.steps; report = Some (record { query = s.query; code = code }) }
+returned_state s code = record { host = cleared s.host s.nulls; binding = None; held = s.held; leases = []; nulls = []; steps = s.steps; report = report_of s.binding code }
 
 -- The text and the room have the lengths that they had at the bind.
 abbrev pub same_lengths : Lengths → List ℕ → List ℕ → Bool
 same_lengths l txt room = length txt == l.text && length room == l.room
 
+-- The same of the binding that is current.
+abbrev pub kept_lengths : Option Binding → List ℕ → List ℕ → Bool
+kept_lengths None txt room = false
+kept_lengths (Some b) txt room = same_lengths b.lengths txt room
+
 -- A binding that is current, on a text and a room of the lengths that they had at its bind.
 abbrev pub current_tests : State → List ℕ → List ℕ → List (Bool × Refusal)
 current_tests s txt room =
-    (not (is_current s.binding), WrongState)
-    ∷ (not (same_lengths s.lengths txt room), Length)
+    (not (is_some s.binding), WrongState)
+    ∷ (not (kept_lengths s.binding txt room), Length)
     ∷ []
 
 -- The answer of the tests of a current binding.
-unfoldable pub current_answer : State → List ℕ → List ℕ → Result (Unit {0}) Refusal
-current_answer s txt room = test_answer (first_of (current_tests s txt room))
+abbrev pub current_answer : State → List ℕ → List ℕ → Result (Unit {0}) Refusal
+current_answer s txt room = test_answer (first_of (current_tests s txt room)) tt
 
 -- Execute: one step, and then the return, whatever the step gave.
 abbrev pub execute_tests : State → List ℕ → List ℕ → List (Bool × Refusal)
@@ -158,7 +173,7 @@ report_code (Err f) = f.code
 
 -- The statement after a step, which is counted.
 abbrev pub stepped_state : State → List ℕ → List ℕ → State
-stepped_state s txt room = record { host = step_after s.host txt room; binding = s.binding; held = s.held; query = s.query; leases = s.leases; nulls = s.nulls; lengths = s.lengths; steps = s.steps + 1; report = s.report }
+stepped_state s txt room = record { host = step_after s.host txt room; binding = s.binding; held = s.held; leases = s.leases; nulls = s.nulls; steps = s.steps + 1; report = s.report }
 
 -- An execute's answer, by its tests and then by its step.
 abbrev pub execute_says_by : Option Refusal → State → List ℕ → List ℕ → Result Executed Refusal

@@ -1,7 +1,7 @@
 // A sheet with calls behind it, played from first to last.
-use calls::turns::{Calls, read_calls};
-use runs::acts::perform_all;
-use runs::turns::Answer;
+use calls::turns::{Calls, letter, read_calls};
+use runs::acts::{figures, number, perform_all};
+use runs::turns::Reply;
 use script::player::ScriptHost;
 use sheet::{CheckedSheet, read_sheet};
 use std::alloc::{AllocError, Global};
@@ -13,25 +13,23 @@ const BYTE_LIMIT: usize = 4096;
 // How many bytes the room has.
 const ROOM: usize = 4096;
 
-// Shows an answer: the call's letter, the number and the two figures.
-fn show(heap: Global, letter: u8, answer: &Answer) -> Result<String, AllocError> {
+// Shows an answer: the call's letter, the number and the two figures. (A reply is a `Result` of the
+// library's, for which no `Display` can be written here.)
+fn show(shown: &mut String, letter: u8, reply: &Reply) -> Result<(), AllocError> {
     let call = char::from(letter);
-    let number = answer.number();
-    let (first, second) = answer.figures();
-    format!(in heap; "{call} {number} {first} {second}\n")
+    let number = number(reply);
+    let (first, second) = figures(reply);
+    writeln!(shown, "{call} {number} {first} {second}")
 }
 
-// Shows the answers in order, and `?` where a malformed call comes next.
-fn show_all(
-    heap: Global,
-    letters: &[u8],
-    answers: &[Answer],
-    malformed: bool,
-) -> Result<String, AllocError> {
+// Performs the calls behind a sheet and shows each, and `?` where a malformed call comes next.
+fn show_calls(heap: Global, sheet: CheckedSheet<'_>, calls: Calls) -> Result<String, AllocError> {
+    let Calls { turns, malformed } = calls;
+    let letters: Vec<u8> = turns.iter().map(|turn| letter(&turn.call)).collect(heap)?;
+    let performed = perform_all(heap, ScriptHost::new(sheet, BYTE_LIMIT), turns)?;
     let mut shown = String::new(heap);
-    for (letter, answer) in letters.iter().zip(answers.iter()) {
-        let line = show(heap, *letter, answer)?;
-        shown.push_str(line.as_str())?;
+    for (letter, reply) in letters.iter().zip(performed.answers.iter()) {
+        show(&mut shown, *letter, reply)?;
     }
     if malformed {
         shown.push_str("?\n")?;
@@ -51,18 +49,7 @@ pub(crate) fn play(heap: Global, input: &[u8]) -> Result<String, AllocError> {
             "the parameters of this sheet name columns: it cannot be played yet\n",
         );
     }
-    let end = sheet.end;
     let room = vec![in heap; 0; ROOM]?;
-    let Calls {
-        letters,
-        turns,
-        malformed,
-    } = read_calls(heap, &input[end..], room)?;
-    let performed = perform_all(heap, ScriptHost::new(sheet, BYTE_LIMIT), turns)?;
-    show_all(
-        heap,
-        letters.as_slice(),
-        performed.answers.as_slice(),
-        malformed,
-    )
+    let calls = read_calls(heap, &input[sheet.end()..], room)?;
+    show_calls(heap, sheet, calls)
 }

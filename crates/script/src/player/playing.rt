@@ -1,16 +1,16 @@
 // The script host's functions.
-ghost use Rattle.std.specs.Prelude.{◌≡◌, ℕ, ◌+◌, ◌<◌, ◌≤◌, [], length, Decides, MatchOption};
-ghost use Rattle.host.specs.Meaning.{bind_fault};
+ghost use Rattle.std.specs.Prelude.{◌≡◌, ◌≤◌, ◌↔◌, length, IsTrue};
+ghost use Rattle.host.specs.Meaning.{bind_answer};
 ghost use Rattle.sheet.specs.Decode.{sheet_at};
-ghost use Rattle.sheet.specs.Places.{Accepted};
-ghost use Rattle.script.specs.Program.{script_start, Bindable, Advanced};
+ghost use Rattle.script.specs.Program.{script_start, Advanced};
 ghost use Rattle.script.specs.Scripted.{meaning_of};
+ghost use Rattle.script.specs.Laws.{script_sound};
 
-use crate::moves::{Advance, Move};
 use crate::player::ScriptHost;
 use host::{BindFault, Host, HostValue, Slot, StepFault, Stepped};
 use sheet::CheckedSheet;
-use sheet::play::{Played, name_at, next_outcome};
+use sheet::play::{Move, next_outcome};
+use values::few::Few;
 
 // The codes of a row and of done.
 const ROW: u32 = 100;
@@ -19,17 +19,13 @@ const DONE: u32 = 101;
 
 impl<'a> ScriptHost<'a> {
     // At the first outcome of a sheet that was read, with every slot null.
+    #[tactic(auto, unfolding(crate::specs::Program::script_start))]
     pub fn new(sheet: CheckedSheet<'a>, byte_limit: usize) -> ScriptHost<'a>
-        requires { Accepted sheet.bytes.now sheet.columns sheet.parameters sheet.copy_limit sheet.names sheet.outcomes sheet.end sheet.table }
         ensures { meaning_of result ≡ script_start (sheet_at sheet.entry.bytes.now) byte_limit }
     {
         ScriptHost {
-            bytes: sheet.bytes,
-            columns: sheet.columns,
-            parameters: sheet.parameters as usize,
-            names: sheet.names,
-            start: sheet.outcomes,
-            slots: [Slot::Null; 32],
+            sheet,
+            slots: Few::filled(Slot::Null, sheet.parameters as usize),
             place: sheet.outcomes,
             index: 0,
             stepped: false,
@@ -39,132 +35,97 @@ impl<'a> ScriptHost<'a> {
         }
     }
 
-    // The outcome at the host's place, and the place after it; past the last outcome it is done, and starts over.
-    fn advance(&self) -> Advance
-        ensures { Advanced self.now.bytes.now self.now.columns (sheet_at self.now.bytes.now).outcomes self.now.index result }
+    // The next outcome, the bytes behind it, and the number of the one after it.
+    // Past the last outcome it is done, and starts over.
+    fn advance(&self) -> (Move<'a>, &'a [u8], usize)
+        ensures { Advanced self.now.sheet.columns (sheet_at self.now.sheet.bytes.now).outcomes
+            self.now.index result.0 result.1.now result.2 }
     {
-        match next_outcome(self.bytes, self.columns, self.place) {
-            Played::Row(values, next) => Advance {
-                outcome: Move::Row(values),
-                place: next,
-                index: self.index + 1,
-            },
-            Played::Done(next) => Advance {
-                outcome: Move::Done,
-                place: next,
-                index: self.index + 1,
-            },
-            Played::Failed(code, next) => Advance {
-                outcome: Move::Failed(code as u32),
-                place: next,
-                index: self.index + 1,
-            },
-            Played::End => Advance {
-                outcome: Move::Done,
-                place: self.start,
-                index: 0,
-            },
+        match next_outcome(self.place, self.sheet.columns) {
+            Some(played) => (played.outcome, played.next, self.index + 1),
+            None => (Move::Done, self.sheet.outcomes, 0),
         }
     }
 
     // Whether there is such a slot, counted from 1.
     fn has_slot(&self, index: usize) -> bool
-        ensures { Decides result ((1 ≤ index) × (index ≤ self.now.parameters)) }
+        ensures { IsTrue result ↔ (1 ≤ index) × (index ≤ length self.now.slots) }
     {
-        1 <= index && index <= self.parameters
+        (1..=self.slots.len()).contains(&index)
     }
 
-    // Whether there is such a column, counted from 0.
-    fn has_column(&self, index: usize) -> bool
-        ensures { Decides result (index < self.now.columns) }
-    {
-        (index as u64) < self.columns
-    }
-
-    // Why binding this slot is refused.
-    fn bind_fault(&self, index: usize, slot: Slot) -> Option<BindFault>
-        ensures fault { result ≡ bind_fault (meaning_of self.now) index slot }
-        ensures bindable { Bindable result index self.now.parameters }
+    // Whether this slot may be bound, and if not, why.
+    #[tactic(auto, unfolding(host::specs::Meaning::bind_fault, host::specs::Meaning::bind_answer))]
+    fn may_bind(&self, index: usize, slot: Slot) -> Result<(), BindFault>
+        ensures { result ≡ bind_answer (meaning_of self.now) index slot }
     {
         if self.stepped {
-            return Some(BindFault::Misuse);
+            return Err(BindFault::Misuse);
         }
         if !self.has_slot(index) {
-            return Some(BindFault::Range);
+            return Err(BindFault::Range);
         }
         if slot.byte_count() > self.byte_limit {
-            return Some(BindFault::TooBig);
+            return Err(BindFault::TooBig);
         }
-        None
+        Ok(())
     }
 }
 
 impl<'a> Host for ScriptHost<'a> {
     ghost meaning = { meaning_of };
 
-    // A script host keeps the laws, since its sheet is well formed.
-    fn laws(&self) {}
-
     fn parameter_count(&self) -> usize {
-        self.parameters
+        self.sheet.parameters as usize
     }
 
     fn column_count(&self) -> usize {
-        self.columns as usize
+        self.sheet.columns as usize
     }
 
     fn column_name(&self, index: usize) -> Option<&[u8]> {
-        if !self.has_column(index) {
-            return None;
-        }
-        name_at(self.bytes, self.names, index as u64)
+        self.sheet.column_name(index)
     }
 
+    #[tactic(auto, unfolding(host::specs::Meaning::bind_fault, host::specs::Meaning::bind_answer, host::specs::Meaning::bind_after))]
     fn bind(&mut self, index: usize, value: HostValue<'_>) -> Result<(), BindFault> {
-        let slot = value.slot();
-        let Some(fault) = self.bind_fault(index, slot) else {
-            self.slots[index - 1] = slot;
-            self.code = 0;
-            return Ok(());
-        };
-        match fault {
-            BindFault::TooBig => {
-                self.slots[index - 1] = Slot::Null;
-                self.code = fault.code();
-                Err(fault)
-            }
-            BindFault::Misuse | BindFault::Range => {
-                self.code = fault.code();
-                Err(fault)
-            }
+        let slot = Slot::from(value);
+        let answer = self.may_bind(index, slot);
+        match answer {
+            Ok(()) => self.slots.set(index - 1, slot),
+            Err(BindFault::TooBig) => self.slots.set(index - 1, Slot::Null),
+            Err(BindFault::Misuse | BindFault::Range) => {}
         }
+        self.code = answer.err().map_or(0, BindFault::code);
+        answer
     }
 
+    #[tactic(auto, unfolding(host::specs::Meaning::reset_after))]
     fn reset(&mut self) {
-        self.place = self.start;
+        self.place = self.sheet.outcomes;
         self.index = 0;
         self.stepped = false;
         self.row = None;
     }
 
+    #[tactic(auto, unfolding(host::specs::Meaning::ran, host::specs::Meaning::step_answer, host::specs::Meaning::step_after))]
     fn step(&mut self, text: &[u8], room: &[u8]) -> Result<Stepped, StepFault> {
-        let next = self.advance();
-        self.place = next.place;
-        self.index = next.index;
+        let (outcome, place, index) = self.advance();
+        self.place = place;
+        self.index = index;
         self.stepped = true;
-        match next.outcome {
+        self.row = None;
+        match outcome {
             Move::Row(values) => {
                 self.row = Some(values);
                 self.code = ROW;
                 Ok(Stepped::Row)
             }
             Move::Done => {
-                self.row = None;
                 self.code = DONE;
                 Ok(Stepped::Done)
             }
             Move::Failed(code) => {
-                self.row = None;
                 self.code = code;
                 Err(StepFault { code })
             }
@@ -174,4 +135,6 @@ impl<'a> Host for ScriptHost<'a> {
     fn code(&self) -> u32 {
         self.code
     }
+
+    ghost laws = { λ h. script_sound h.sheet.good h.each };
 }

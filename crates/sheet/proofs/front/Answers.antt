@@ -1,14 +1,16 @@
-use Rattle.std.proofs.Common.{◌≡◌, ℕ, List, take, sym, ap, arith}
+use Rattle.std.proofs.Common.{ℕ, ◌≡◌, ◌+◌, ◌-◌, ◌<◌, ◌≤◌, ◌⊎◌, List, take, length, Option, Some, None, Bor, MatchOption, sym, ap, ◌∙◌, arith, slice_range}
 use Rattle.std.proofs.lemmas.List.{take_all}
-use Rattle.sheet.specs.declared.TheConstants.{LIMIT}
+use Rattle.std.specs.Option.{unwrap_or}
 use Rattle.sheet.proofs.front.Goals as goal
 
--- Where n is 65,536, the first n bytes are the first 65,536.
-limited : (n : ℕ) (s : List ℕ) → n ≡ 65536 → take n s ≡ take 65536 s
-limited n s e = ap (λ m. take m s) e
+-- The first n bytes, or all where there are fewer.
+limited : (s : Bor (List ℕ)) (n : ℕ) (g : Option (Bor (List ℕ))) →
+    MatchOption g ((n < 0) ⊎ (length s.now < n))
+    (λ x. (0 ≤ n) × (n ≤ length s.now) × (x.now ≡ slice_range s.now 0 n) × (length x.now + 0 ≡ n)) →
+    (unwrap_or g s).now ≡ take n s.now
+limited s n None h = sym (take_all n s.now (omega arith))
+limited s n (Some x) h = let e : n - 0 ≡ n = omega arith in h.2 ∙ ap (λ m. take m s.now) e
 
-pub returns-then-bytes-gt-LIMIT : goal.returns-then-bytes-gt-LIMIT
-returns-then-bytes-gt-LIMIT c = limited LIMIT c.args.bytes.now (omega arith)
-
-pub returns-else-bytes-gt-LIMIT : goal.returns-else-bytes-gt-LIMIT
-returns-else-bytes-gt-LIMIT c = sym (take_all 65536 c.args.bytes.now (omega arith))
+pub returns : goal.returns
+returns c =
+    ap (λ z. z.now) c.unwrap_or.ensures ∙ limited c.args.bytes 65536 c.get.result c.get.ensures.lookup.0

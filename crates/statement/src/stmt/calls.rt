@@ -1,37 +1,24 @@
 // The calls of a statement: set up, bind, execute, end.
-ghost use Rattle.std.specs.Prelude.{◌≡◌, ◌<◌, ◌≤◌, true, length, is_ok, nat_lt};
-ghost use Rattle.binds.specs.Pairs.{borrowed_span, owned_span, all_fit, all_inside};
+ghost use Rattle.std.specs.Prelude.{◌≡◌, ◌<◌, true, length, nat_lt};
+ghost use Rattle.binds.specs.Pairs.{all_inside};
 ghost use Rattle.binds.specs.Leases.{zeroed};
-ghost use Rattle.statement.specs.State.{state_of, set_up, is_current};
+ghost use Rattle.statement.specs.State.{state_of, set_up};
 ghost use Rattle.statement.specs.Calls.{too_long, same_lengths, may_bind_answer, take_says, take_goes, take_leaves, bind_says, bind_goes, bind_leaves, returned_state, current_answer, report_code, stepped_state, execute_says, execute_goes, execute_leaves, end_says, end_goes, end_leaves};
-ghost use Rattle.host.specs.Meaning.{step_answer, reset_after};
+ghost use Rattle.host.specs.Meaning.{step_answer};
 
 use super::{Binding, Executed, HeldRows, Lengths, Report, Statement};
 use binds::collector::{SqliteBindValue, all_inside};
-use binds::ledger::collecting::Collecting;
-use binds::ledger::{ByteSlots, Ledger};
+use binds::ledger::{Collecting, Ledger};
+use binds::pairs::Pairs;
 use binds::refusal::Refusal;
 use binds::returning::{null_every, null_slots, zero_leases};
 use binds::taking::{bind_values, enter_leases, write_owned};
 use host::{Host, StepFault, Stepped};
 use values::SqliteType;
+use values::few::Few;
 
 // The longest text, given bytes and room.
 const LONGEST: usize = 65536;
-
-// The most steps of a statement.
-const LAST_STEP: u32 = 4294967295;
-
-impl Binding {
-    fn is_current(&self) -> bool
-        ensures { result ≡ is_current self.now }
-    {
-        match *self {
-            Binding::AtRest => false,
-            Binding::Unstepped => true,
-        }
-    }
-}
 
 impl HeldRows {
     // Whether any row is held, which stops a bind.
@@ -69,21 +56,20 @@ fn report_code(stepped: &Result<Stepped, StepFault>) -> u32
 }
 
 impl<X: Host> Statement<X> {
-    // Sets a statement up over a host, of any kind and in any state: the host is reset, and each of its slots made null.
-    pub fn new(host: X) -> Statement<X>
+    // Sets a statement up over a host, of any kind and in any state: the host is reset, and each of
+    // its slots made null.
+    #[tactic(auto, unfolding(host::specs::Meaning::reset_after))]
+    pub fn new(mut host: X) -> Statement<X>
         ensures { state_of X.Host.meaning result ≡ set_up (X.Host.meaning host) }
     {
-        let mut host = host;
         host.reset();
         null_every(&mut host);
         Statement {
             host,
-            binding: Binding::AtRest,
+            binding: None,
             held: HeldRows { count: 0 },
-            query: 0,
             ledger: Ledger::new(),
-            nulls: ByteSlots::new(),
-            lengths: Lengths { text: 0, room: 0 },
+            nulls: Few::new(0),
             steps: 0,
             report: None,
         }
@@ -93,21 +79,21 @@ impl<X: Host> Statement<X> {
     pub fn report(&self) -> Option<Report>
         ensures { result ≡ (state_of X.Host.meaning self.now).report }
     {
-        let Report { query, code } = self.report?;
-        Some(Report { query, code })
+        self.report
     }
 
-    // What is tested before the values are looked at.
-    fn may_bind(
+    // What is tested before any value is bound. It answers the values, which are few enough.
+    fn may_bind<'a>(
         &self,
-        pairs: &[(SqliteType, SqliteBindValue)],
+        pairs: &'a [(SqliteType, SqliteBindValue)],
         text: &[u8],
         given: &[u8],
         room: usize,
-    ) -> Result<(), Refusal>
-        ensures { result ≡ may_bind_answer (state_of X.Host.meaning self.now) pairs.now text.now given.now room }
+    ) -> Result<Pairs<'a>, Refusal>
+        ensures { result ≡
+            may_bind_answer (state_of X.Host.meaning self.now) pairs.now text.now given.now room }
     {
-        if self.binding.is_current() {
+        if self.binding.is_some() {
             return Err(Refusal::WrongState);
         }
         if self.held.any() {
@@ -116,39 +102,37 @@ impl<X: Host> Statement<X> {
         if too_long(text.len(), given.len(), room) {
             return Err(Refusal::Length);
         }
-        if pairs.len() > 32 {
-            return Err(Refusal::TooManyValues);
-        }
+        let few = Pairs::new(pairs)?;
         if !all_inside(pairs, text.len(), given.len()) {
             return Err(Refusal::Outside);
         }
-        Ok(())
+        Ok(few)
     }
 
     // Takes the values up: enters their leases, copies the owned ones into the room and binds each.
     // On every way out but the last the guard puts the ledger back.
     fn take_up(
         &mut self,
-        pairs: &[(SqliteType, SqliteBindValue)],
+        pairs: &Pairs<'_>,
         text: &[u8],
         given: &[u8],
         room: &mut [u8],
     ) -> Result<usize, Refusal>
-        requires few { length pairs.now ≤ 32 }
-        requires inside { all_inside (length text.now) (length given.now) pairs.now ≡ true }
+        requires { all_inside (length text.now) (length given.now) pairs.now ≡ true }
         ensures answer { result ≡ take_says (state_of X.Host.meaning self.old) pairs.now room.old }
-        ensures after { state_of X.Host.meaning self.new ≡ take_goes (state_of X.Host.meaning self.old) pairs.now room.old }
-        ensures room { room.new ≡ take_leaves (state_of X.Host.meaning self.old) pairs.now given.now room.old }
+        ensures after { state_of X.Host.meaning self.new ≡
+            take_goes (state_of X.Host.meaning self.old) pairs.now room.old }
+        ensures room { room.new ≡
+            take_leaves (state_of X.Host.meaning self.old) pairs.now given.now room.old }
     {
         let mut collecting = Collecting::begin(&mut self.ledger);
         enter_leases(&mut collecting, pairs, room.len())?;
-        write_owned(pairs, given, room);
-        let mut took = ByteSlots::new();
+        write_owned(pairs.as_slice(), given, room);
+        let mut took = Few::new(0);
         if let Err(refusal) = bind_values(&mut self.host, pairs, text, room, &mut took) {
             self.host.reset();
             null_slots(&mut self.host, took.as_slice());
-            let leases = collecting.leases();
-            zero_leases(leases.as_slice(), room);
+            zero_leases(collecting.leases(), room);
             return Err(refusal);
         }
         self.nulls = took;
@@ -156,6 +140,7 @@ impl<X: Host> Statement<X> {
     }
 
     // Binds the values, each at the slot of its number, and answers how many are owned.
+    #[tactic(auto, unfolding(crate::specs::Calls::bind_says, crate::specs::Calls::bind_goes, crate::specs::Calls::bind_leaves))]
     pub fn bind(
         &mut self,
         query: u32,
@@ -164,18 +149,21 @@ impl<X: Host> Statement<X> {
         given: &[u8],
         room: &mut [u8],
     ) -> Result<usize, Refusal>
-        ensures answer { result ≡ bind_says (state_of X.Host.meaning self.old) pairs.now text.now given.now room.old }
-        ensures after { state_of X.Host.meaning self.new ≡ bind_goes (state_of X.Host.meaning self.old) query pairs.now text.now given.now room.old }
-        ensures room { room.new ≡ bind_leaves (state_of X.Host.meaning self.old) pairs.now text.now given.now room.old }
+        ensures answer { result ≡
+            bind_says (state_of X.Host.meaning self.old) pairs.now text.now given.now room.old }
+        ensures after { state_of X.Host.meaning self.new ≡
+            bind_goes (state_of X.Host.meaning self.old) query
+            pairs.now text.now given.now room.old }
+        ensures room { room.new ≡
+            bind_leaves (state_of X.Host.meaning self.old) pairs.now text.now given.now room.old }
     {
-        self.may_bind(pairs, text, given, room.len())?;
-        let owned = self.take_up(pairs, text, given, room)?;
-        self.query = query;
-        self.lengths = Lengths {
+        let pairs = self.may_bind(pairs, text, given, room.len())?;
+        let owned = self.take_up(&pairs, text, given, room)?;
+        let lengths = Lengths {
             text: text.len(),
             room: room.len(),
         };
-        self.binding = Binding::Unstepped;
+        self.binding = Some(Binding { query, lengths });
         Ok(owned)
     }
 
@@ -183,10 +171,8 @@ impl<X: Host> Statement<X> {
     fn may_go_on(&self, text: &[u8], room: &[u8]) -> Result<(), Refusal>
         ensures { result ≡ current_answer (state_of X.Host.meaning self.now) text.now room.now }
     {
-        if !self.binding.is_current() {
-            return Err(Refusal::WrongState);
-        }
-        if !self.lengths.are(text, room) {
+        let binding = self.binding.ok_or(Refusal::WrongState)?;
+        if !binding.lengths.are(text, room) {
             return Err(Refusal::Length);
         }
         Ok(())
@@ -195,43 +181,46 @@ impl<X: Host> Statement<X> {
     // One step of the host, counted.
     fn step(&mut self, text: &[u8], room: &[u8]) -> Result<Stepped, StepFault>
         requires { self.old.steps < 4294967295 }
-        ensures answer { result ≡ step_answer (state_of X.Host.meaning self.old).host text.now room.now }
-        ensures after { state_of X.Host.meaning self.new ≡ stepped_state (state_of X.Host.meaning self.old) text.now room.now }
+        ensures answer { result ≡
+            step_answer (state_of X.Host.meaning self.old).host text.now room.now }
+        ensures after { state_of X.Host.meaning self.new ≡
+            stepped_state (state_of X.Host.meaning self.old) text.now room.now }
     {
         self.steps += 1;
-        let stepped = self.host.step(text, room)?;
-        Ok(stepped)
+        self.host.step(text, room)
     }
 
     // Returns the binding: the host is reset and its slots with text or bytes made null,
     // the leases are zeroed in the room and given back, and the sink is told once.
     fn give_back(&mut self, code: u32, room: &mut [u8]) -> usize
         ensures answer { result ≡ length (state_of X.Host.meaning self.old).leases }
-        ensures after { state_of X.Host.meaning self.new ≡ returned_state (state_of X.Host.meaning self.old) code }
+        ensures after { state_of X.Host.meaning self.new ≡
+            returned_state (state_of X.Host.meaning self.old) code }
         ensures room { room.new ≡ zeroed (state_of X.Host.meaning self.old).leases room.old }
     {
         self.host.reset();
         null_slots(&mut self.host, self.nulls.as_slice());
         zero_leases(self.ledger.as_slice(), room);
         let returned = self.ledger.len();
-        self.nulls = ByteSlots::new();
+        self.nulls = Few::new(0);
         self.ledger = Ledger::new();
-        self.binding = Binding::AtRest;
-        self.report = Some(Report {
-            query: self.query,
-            code,
-        });
+        let binding = self.binding.take();
+        self.report = binding.map(|Binding { query, .. }| Report { query, code });
         returned
     }
 
     // Steps once and returns the binding, whatever the step gave.
+    #[tactic(auto, unfolding(crate::specs::Calls::execute_says, crate::specs::Calls::execute_goes, crate::specs::Calls::execute_leaves))]
     pub fn execute(&mut self, text: &[u8], room: &mut [u8]) -> Result<Executed, Refusal>
-        ensures answer { result ≡ execute_says (state_of X.Host.meaning self.old) text.now room.old }
-        ensures after { state_of X.Host.meaning self.new ≡ execute_goes (state_of X.Host.meaning self.old) text.now room.old }
-        ensures room { room.new ≡ execute_leaves (state_of X.Host.meaning self.old) text.now room.old }
+        ensures answer { result ≡
+            execute_says (state_of X.Host.meaning self.old) text.now room.old }
+        ensures after { state_of X.Host.meaning self.new ≡
+            execute_goes (state_of X.Host.meaning self.old) text.now room.old }
+        ensures room { room.new ≡
+            execute_leaves (state_of X.Host.meaning self.old) text.now room.old }
     {
         self.may_go_on(text, room)?;
-        if self.steps == LAST_STEP {
+        if self.steps == u32::MAX {
             return Err(Refusal::StepsSpent);
         }
         let stepped = self.step(text, room);
@@ -246,9 +235,11 @@ impl<X: Host> Statement<X> {
     }
 
     // Returns the binding with no step, and answers how many buffers came back.
+    #[tactic(auto, unfolding(crate::specs::Calls::end_says, crate::specs::Calls::end_goes, crate::specs::Calls::end_leaves))]
     pub fn end(&mut self, text: &[u8], room: &mut [u8]) -> Result<usize, Refusal>
         ensures answer { result ≡ end_says (state_of X.Host.meaning self.old) text.now room.old }
-        ensures after { state_of X.Host.meaning self.new ≡ end_goes (state_of X.Host.meaning self.old) text.now room.old }
+        ensures after { state_of X.Host.meaning self.new ≡
+            end_goes (state_of X.Host.meaning self.old) text.now room.old }
         ensures room { room.new ≡ end_leaves (state_of X.Host.meaning self.old) text.now room.old }
     {
         self.may_go_on(text, room)?;

@@ -1,10 +1,9 @@
-use Rattle.std.proofs.Common.{◌≡◌, ◌-◌, length, vec_items, vec_len}
-use Rattle.calls.specs.Calls.{fresh_bytes}
+use Rattle.std.proofs.Common.{length, vec_items}
 use Rattle.calls.proofs.Calling.{Reading}
 use Rattle.calls.proofs.turns.read_calls.Given as goal
 
-abbrev pub invariant-loop-letter : goal.invariant-loop-letter
-invariant-loop-letter l = (vec_len l.letters ≡ vec_len l.turns) × (l.reader.bytes.now ≡ l.initial.reader.bytes.now) × Reading (fresh_bytes l.initial.lent) l.initial.reader.bytes.now l.reader.bytes.now l.reader.place (vec_items l.letters) (vec_items l.turns) l.lent
+abbrev pub invariant-loop-rest : goal.invariant-loop-rest
+invariant-loop-rest l = Reading (vec_items l.fn.room) l.bytes l.rest (vec_items l.turns) l.room
 
-abbrev pub decreases-loop-letter : goal.decreases-loop-letter
-decreases-loop-letter l = length l.reader.bytes.now - l.reader.place
+abbrev pub decreases-loop-rest : goal.decreases-loop-rest
+decreases-loop-rest l = length l.rest

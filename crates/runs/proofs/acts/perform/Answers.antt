@@ -1,25 +1,13 @@
-use Rattle.std.proofs.Common.{vec_items, sym, ap, ◌∙◌}
-use Rattle.statement.specs.State.{state_of}
-use Rattle.runs.specs.Turns.{desk_of, kept_text}
-use Rattle.runs.proofs.Turned.{turn_parts, kept_same, fresh_same}
+use Rattle.std.proofs.Common.{◌≡◌, length, ◌∙◌, arith, rules}
+use Rattle.std.proofs.lemmas.List.{take_at}
+use Rattle.runs.specs.Turns.{at_of, desk, lent_at}
+use Rattle.runs.proofs.Turned.{turn_parts}
 use Rattle.runs.proofs.acts.perform.Goals as goal
 
-pub returns-in-Kept : goal.returns-in-Kept
-returns-in-Kept g c =
-    let m = g.X.Host.meaning in
-    let t = c.args.turn in
-    let b = c.args.buffers in
-    let q = c.make_call_in-answer in
-    let k = kept_same q.result t.text (vec_items b.text) _ c.in-Kept.is c.as_slice.ensures.value in
-    let x = turn_parts (record { state = state_of m c.args.statement.now; desk = desk_of b }) t (state_of m q.new.statement) q.result _ _ (vec_items c.lend-given.result) (vec_items c.lend-room.result) (vec_items q.new.room) (vec_items b.text) k.0 c.lend-given.ensures c.as_slice-in-Kept.ensures.value c.lend-room.ensures q.ensures.answer q.ensures.after q.ensures.room k.1 in
-    record { answer = x.0; after = x.1 }
-
-pub returns : goal.returns
-returns g c =
-    let m = g.X.Host.meaning in
-    let t = c.args.turn in
-    let b = c.args.buffers in
-    let q = c.make_call_in-answer-in-Fresh in
-    let f = fresh_same t.text c.in-Fresh.fresh (vec_items b.text) _ c.in-Fresh.is c.as_slice-in-Fresh.ensures.value in
-    let x = turn_parts (record { state = state_of m c.args.statement.now; desk = desk_of b }) t (state_of m q.new.statement) q.result _ _ (vec_items c.lend-given.result) (vec_items c.lend-room.result) (vec_items q.new.room) (vec_items c.keep_text-text.result) f c.lend-given.ensures c.as_slice-in-Fresh-2.ensures.value c.lend-room.ensures q.ensures.answer q.ensures.after q.ensures.room (c.keep_text-text.ensures ∙ ap (λ z. kept_text q.result z (vec_items b.text)) (sym c.as_slice-in-Fresh.ensures.value)) in
-    record { answer = x.0; after = x.1 }
+pub returns-clause-after : goal.returns-clause-after
+returns-clause-after g c =
+    let call = c.make_call-reply in
+    let before = at_of g.X.Host.meaning c.args.statement.now c.args.buffers in
+    let lent : desk c.as_slice.result.now c.as_slice-2.result.now c.as_mut_slice.result.now ≡ lent_at c.args.turn before.desk = search rules in
+    let size : length call.new.room ≡ c.unwrap_or-room.result.len = omega (arith, c.as_mut_slice.ensures.len, call.auto.room) in
+    turn_parts before c.args.turn _ _ _ _ _ _ lent call.ensures.answer call.ensures.after c.text_after-text.ensures (search rules) (take_at _ _ _ size ∙ call.ensures.room)

@@ -1,43 +1,23 @@
-use Rattle.std.proofs.Common.{ℕ, List, ◌∙◌, subst, arith}
-use Rattle.sheet.specs.Sheet.{rendered_value, GoodValue}
-use Rattle.sheet.specs.Lines.{Moved, Stuck, Block, Breaks, cell_of, CellWithin}
-use Rattle.sheet.proofs.Standing.{both, values_within, no_values_break, next_value_lem, no_next_value}
+use Rattle.std.proofs.lemmas.Option.{MatchOption-at_none, MatchOption-at_some}
+use Rattle.std.proofs.Common.{sym, ◌∙◌}
+use Rattle.sheet.proofs.Runs.{value_free}
+use Rattle.sheet.proofs.Standing.{value_there}
 use Rattle.sheet.proofs.play.value_at.Goals as goal
 
-pub returns-in_default : goal.returns-in_default
-returns-in_default c = λ vs rest h g e.
-    let s = c.args.bytes.now in
-    let p = c.args.place in
-    let i = c.args.i in
-    let r0 = c.at-reader.result in
-    let w = values_within vs rest s p e (omega arith) in
-    let bad = c.in_default.field-0.line in
-    let b = both (λ (z : List ℕ) (q : ℕ). Breaks rendered_value GoodValue z q r0.line i bad) c.at-reader.ensures.bytes (c.at-reader.ensures.place w) c.in_default.ensures.read in
-    no_values_break s p r0.line i bad vs rest (omega arith) g e b
+pub returns-in_err-behind : goal.returns-in_err-behind
+returns-in_err-behind c = λ vs rest h g e.
+    let x = value_there _ (λ b o p. p) c.args.i vs rest c.args.values.now c.behind.result h g e c.behind.ensures in
+    absurd (MatchOption-at_none _ _ c.in_err-behind.was x)
 
-pub returns-in_default-value : goal.returns-in_default-value
-returns-in_default-value c = λ vs rest h g e.
-    let s = c.args.bytes.now in
-    let p = c.args.place in
-    let i = c.args.i in
-    let r0 = c.at-reader.result in
-    let r1 = c.row.new.self in
-    let w = values_within vs rest s p e (omega arith) in
-    let b = both (λ (z : List ℕ) (q : ℕ). Block rendered_value GoodValue z q i r1.place) c.at-reader.ensures.bytes (c.at-reader.ensures.place w) c.in-Ok.ensures.read.0 in
-    let bad = c.in_default-value.field-0.line in
-    let x = subst (λ (z : List ℕ). Stuck rendered_value GoodValue z r1.place r1.line bad) (c.in-Ok.ensures.same ∙ c.at-reader.ensures.bytes) c.in_default-value.ensures.read in
-    no_next_value s p i r1.place r1.line bad vs rest h g e b x
+pub returns-in_err-cell : goal.returns-in_err-cell
+returns-in_err-cell c = λ vs rest h g e.
+    let x = value_there _ (λ b o p. p) c.args.i vs rest c.args.values.now c.behind.result h g e c.behind.ensures in
+    let y = MatchOption-at_some _ _ _ c.in_ok-behind.was x in
+    absurd (c.in_err-cell.ensures _ y.rest y.good y.begins)
 
 pub returns : goal.returns
 returns c = λ vs rest h g e.
-    let s = c.args.bytes.now in
-    let p = c.args.place in
-    let i = c.args.i in
-    let r0 = c.at-reader.result in
-    let r1 = c.row.new.self in
-    let r2 = c.value.new.self in
-    let cell = c.in-Ok-value.cell in
-    let w = values_within vs rest s p e (omega arith) in
-    let b = both (λ (z : List ℕ) (q : ℕ). Block rendered_value GoodValue z q i r1.place) c.at-reader.ensures.bytes (c.at-reader.ensures.place w) c.in-Ok.ensures.read.0 in
-    let x = subst (λ (z : List ℕ). Moved rendered_value GoodValue z r1.place r1.line (cell_of z cell) r2.place r2.line × CellWithin z cell) (c.in-Ok.ensures.same ∙ c.at-reader.ensures.bytes) c.in-Ok-value.ensures.read in
-    (next_value_lem s p i r1.place r1.line (cell_of s cell) r2.place r2.line vs rest h g e b x.0, x.1)
+    let x = value_there _ (λ b o p. p) c.args.i vs rest c.args.values.now c.behind.result h g e c.behind.ensures in
+    let y = MatchOption-at_some _ _ _ c.in_ok-behind.was x in
+    let z = c.in_ok-cell.ensures in
+    (value_free _ _ _ y.rest z.good y.good (sym z.begins ∙ y.begins)).0

@@ -5,10 +5,10 @@ pub slice_bounds-read_calls-count : goal.slice_bounds-read_calls-count
 slice_bounds-read_calls-count c =
     let e = ap length c.in-Ok.ensures.0 in
     let t = length-take 65536 c.args.input.now in
-    omega (arith, c.in-Ok.ensures.1.end_within)
+    omega arith
 
 pub slice_bounds-read_calls-start : goal.slice_bounds-read_calls-start
 slice_bounds-read_calls-start c =
     let e = ap length c.in-Ok.ensures.0 in
     let t = length-take 65536 c.args.input.now in
-    omega (arith, c.in-Ok.ensures.1.end_within)
+    omega arith

@@ -11,7 +11,7 @@ use Rattle.binds.specs.declared.collector.SqliteBindValue.{SqliteBindValue}
 use Rattle.binds.specs.declared.collector.SqliteBindValue.TheVariants.{Null}
 use Rattle.binds.specs.declared.refusal.Refusal.{Refusal}
 use Rattle.binds.specs.declared.taking.Unbindable.{Unbindable}
-use Rattle.binds.specs.Pairs.{Pair, span_fits, all_fit, span_length, owned_span, total_room_bytes, lease_of, leases_from, span_bytes, owned_bytes, takes_bytes, number_if, byte_slots, written_room}
+use Rattle.binds.specs.Pairs.{Pair, span_fits, all_fit, span_length, owned_span, owned_count, total_room_bytes, lease_of, leases_from, span_bytes, owned_bytes, takes_bytes, number_if, byte_slots, written_room}
 use Rattle.binds.specs.Tried.{Tried, tried, one_why, one_after, why_answer, go_on, bind_from, refusal_at, tried_answer}
 
 -- the value at an index, as goals name it
@@ -150,3 +150,11 @@ all_written ps given room room₀ i at h e f g =
     let b = bytes_done given ps i h in
     let t = take-append-drop at room in
     grind (arith, common_steps, append-nil)
+
+-- each owned value has one lease
+pub leases_count : (at : ℕ) (ps : List Pair) → length (leases_from at ps) ≡ owned_count ps
+unfolding leases_from owned_count
+leases_count at [] = refl
+leases_count at (p ∷ ps) =
+    let again = leases_count (at + span_length (owned_span p.1)) ps in
+    grind (arith, common_steps)

@@ -1,2 +1,2 @@
 mod Steps
-mod Collect
+pub mod Collect

@@ -5,7 +5,8 @@ ghost use Rattle.binds.specs.Pairs.{pairs_up, owned_span, takes_bytes, span_insi
 use values::SqliteType;
 
 // A stretch of bytes: of the text for a borrowed value, of the given bytes for an owned one, of the
-// room for a lease.
+// room for a lease. No slice: a caller's may lie outside, which a bind refuses, and a borrowed one is
+// looked up anew at each step.
 #[derive(Clone, Copy, PartialEq, Eq, Debug)]
 pub struct Span {
     pub start: usize,

@@ -1,8 +1,9 @@
 // The leases that a binding has in the room, and their collection.
-ghost use Rattle.std.specs.Prelude.{◌≡◌, ◌+◌, ◌<◌, ◌≤◌, [], ◌++◌, length, is_ok, if◌then◌else◌, nat_le};
-ghost use Rattle.binds.specs.Pairs.{span_length, lease_of};
+ghost use Rattle.std.specs.Prelude.{◌≡◌, ◌+◌, ◌<◌, ◌≤◌, true, [], ◌++◌, length, is_ok, if◌then◌else◌, nat_le};
+ghost use Rattle.binds.specs.Pairs.{span_length, lease_of, total_room_bytes, leases_from};
 
 use crate::collector::Span;
+use crate::pairs::Pairs;
 use values::few::Few;
 
 // The leases, in the order of their values, and how many bytes they take.
@@ -34,6 +35,42 @@ impl Ledger {
     {
         self.leases.as_slice()
     }
+
+    // Enters the lease of an owned value where the last one ends.
+    fn enter(&mut self, owned: Option<Span>, room: usize) -> Result<(), Full>
+        requires few { length self.old.leases < 32 }
+        requires fits { self.old.used ≤ room }
+        ensures answer { is_ok result ≡ nat_le (self.old.used + span_length owned) room }
+        ensures used { self.new.used ≡
+            (if is_ok result then self.old.used + span_length owned else self.old.used) }
+        ensures leases { self.new.leases ≡
+            (if is_ok result then self.old.leases ++ lease_of self.old.used owned
+            else self.old.leases) }
+    {
+        let Some(span) = owned else {
+            return Ok(());
+        };
+        let start = self.used;
+        if span.len > room - start {
+            return Err(Full);
+        }
+        self.leases.push(Span { start, ..span });
+        self.used = start + span.len;
+        Ok(())
+    }
+
+    // Enters the leases of the owned values, or stops where the room is too short.
+    pub(crate) fn enter_all(&mut self, pairs: &Pairs<'_>, room: usize) -> Result<(), Full>
+        requires none { self.old.leases ≡ [] }
+        requires unused { self.old.used ≡ 0 }
+        ensures answer { is_ok result ≡ nat_le (total_room_bytes pairs.now) room }
+        ensures leases { is_ok result ≡ true → self.new.leases ≡ leases_from 0 pairs.now }
+    {
+        for (_, value) in pairs.as_slice() {
+            self.enter(value.owned(), room)?;
+        }
+        Ok(())
+    }
 }
 
 // The room is too short for a lease.
@@ -44,7 +81,7 @@ pub struct Full;
 // it was. Each contract says which ledger is lent and what is put back, since no invariant can name
 // the reference that a collection was begun with.
 pub struct Collecting<'a> {
-    ledger: &'a mut Ledger,
+    pub(crate) ledger: &'a mut Ledger,
     before: Ledger,
 }
 
@@ -69,33 +106,6 @@ impl<'a> Collecting<'a> {
         Collecting { ledger, before }
     }
 
-    // Enters the lease of an owned value where the last one ends.
-    pub(crate) fn enter(&mut self, owned: Option<Span>, room: usize) -> Result<(), Full>
-        requires few { length self.old.ledger.now.leases < 32 }
-        requires fits { self.old.ledger.now.used ≤ room }
-        ensures answer { is_ok result ≡ nat_le (self.old.ledger.now.used + span_length owned) room }
-        ensures used { self.new.ledger.now.used ≡
-            (if is_ok result then self.old.ledger.now.used + span_length owned
-            else self.old.ledger.now.used) }
-        ensures leases { self.new.ledger.now.leases ≡
-            (if is_ok result
-            then self.old.ledger.now.leases ++ lease_of self.old.ledger.now.used owned
-            else self.old.ledger.now.leases) }
-        ensures before { self.new.before ≡ self.old.before }
-        ensures lender { self.new.ledger.ghost_name ≡ self.old.ledger.ghost_name }
-    {
-        let Some(span) = owned else {
-            return Ok(());
-        };
-        let start = self.ledger.used;
-        if span.len > room - start {
-            return Err(Full);
-        }
-        self.ledger.leases.push(Span { start, ..span });
-        self.ledger.used = start + span.len;
-        Ok(())
-    }
-
     // The leases so far.
     pub fn leases(&self) -> &[Span]
         ensures { result.now ≡ self.now.ledger.now.leases }
@@ -103,7 +113,7 @@ impl<'a> Collecting<'a> {
         self.ledger.as_slice()
     }
 
-    // Hands the collection on: the leases stay in the ledger.
+    // Hands the collection on: the leases stay in the ledger. It answers how many they are.
     pub fn hand_on(self) -> usize
         ensures count { result ≡ length self.entry.ledger.now.leases }
         ensures same { self.exit.0.now ≡ self.entry.ledger.now }

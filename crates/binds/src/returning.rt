@@ -8,6 +8,7 @@ use crate::collector::Span;
 use host::{Host, HostValue};
 
 // Makes slots null, one after the other.
+#[tactic(auto, using(crate::proofs::Steps::nulled_none, crate::proofs::Steps::nulled_more))]
 fn null_in_turn<X: Host, I: Iterator<Item = usize> + Drop>(host: &mut X, slots: I)
     requires can { I.can_next slots }
     requires ends { IsFinite (I.remaining slots) }
@@ -45,6 +46,7 @@ fn zero_span(span: Span, room: &mut [u8])
 }
 
 // Writes zeros over each of the leases.
+#[tactic(auto, using(std::proofs::lemmas::Grind::common_steps, crate::proofs::Steps::zeroed_none, crate::proofs::Steps::zeroed_more))]
 pub fn zero_leases(leases: &[Span], room: &mut [u8])
     ensures { room.new ≡ zeroed leases.now room.old }
 {

@@ -97,6 +97,7 @@ fn host_value<'a>(
 }
 
 // Binds one value at a slot: the pairing is tested first, then the host is asked.
+#[tactic(auto, using(std::proofs::lemmas::Grind::common_steps, std::proofs::lemmas::Bool::Decides::nat_tests), unfolding(host::specs::Meaning::bind_answer))]
 fn bind_one<X: Host>(
     host: &mut X,
     slot: usize,
@@ -176,10 +177,7 @@ pub fn enter_leases(
     ensures before { collecting.new.before ≡ collecting.old.before }
     ensures lender { collecting.new.ledger.ghost_name ≡ collecting.old.ledger.ghost_name }
 {
-    for (_, value) in pairs.as_slice() {
-        collecting.enter(value.owned(), room)?;
-    }
-    Ok(())
+    collecting.ledger.enter_all(pairs, room)
 }
 
 // Copies an owned value into the room from a place on.

@@ -1,5 +1,5 @@
 -- Calls: how their lines are written, what they may hold, and the turns that they make.
-use Rattle.std.specs.Prelude.{◌≡◌, ℕ, ◌<◌, ◌≤◌, Bool, true, false, List, [], ◌∷◌, ◌++◌, map, length, Some, None, decimal, Option}
+use Rattle.std.specs.Prelude.{◌≡◌, ℕ, ◌<◌, ◌≤◌, List, [], ◌∷◌, ◌++◌, map, length, Some, None, decimal, Option}
 use Rattle.std.specs.List.{flat_map, AllByRecursion}
 use Rattle.runs.specs.Turns.{Asked, asked}
 use Rattle.runs.specs.Turns as run
@@ -90,14 +90,12 @@ TurnsFor room (g ∷ gs) [] = ⊥
 TurnsFor room (g ∷ gs) (t ∷ ts) =
     TurnFor g t × (fresh_bytes t.lent.room ≡ room) × TurnsFor None gs ts
 
--- The bytes begin with the lines of good calls, whose letters and turns these are.
--- If they are not malformed, nothing is left; else what is left begins with no good call.
-pub record CallsRead (s room : List ℕ) (turns : List Turn) (malformed : Bool) : Type 0 where
+-- The bytes begin with the lines of good calls, whose letters and turns these are; rest is what
+-- stands behind them. If anything does, it begins with no good call.
+pub record CallsRead (s room : List ℕ) (turns : List Turn) (rest : List ℕ) : Type 0 where
   pub calls : List Given
-  pub rest : List ℕ
   pub good : AllByRecursion GoodCall calls
   pub begins : s ≡ flat_map call_lines calls ++ rest
   pub letters_are : map (λ t. letter_of_call t.call) turns ≡ map call_letter calls
   pub turns_are : TurnsFor (Some room) calls turns
-  pub whole : malformed ≡ false → rest ≡ []
-  pub broken : malformed ≡ true → (0 < length rest) × Lacks call_lines GoodCall rest
+  pub ends : 0 < length rest → Lacks call_lines GoodCall rest

@@ -68,18 +68,18 @@ fn next_turn(heap: Global, s: &[u8]) -> Result<(Turn, &[u8]), CallFault>
     Ok((values.turn(query), rest))
 }
 
-// The turns of the calls of an input, up to the first malformed one or the end.
+// The turns of the calls of an input, and what is behind them: nothing, or a malformed call first.
 #[derive(Drop)]
-pub struct Calls {
+pub struct Calls<'a> {
     pub turns: Vec<Turn>,
-    pub malformed: bool,
+    pub rest: &'a [u8],
 }
 
 // Reads calls as far as they are well formed.
 // The first turn lends the room, and the others keep it.
 #[tactic(auto, using(crate::proofs::Calling::reading_more))]
-pub fn read_calls(heap: Global, bytes: &[u8], room: Vec<u8>) -> Result<Calls, AllocError>
-    ensures { IfOk result (λ c. CallsRead bytes.now room.items c.turns.items c.malformed) }
+pub fn read_calls(heap: Global, bytes: &[u8], room: Vec<u8>) -> Result<Calls<'_>, AllocError>
+    ensures { IfOk result (λ c. CallsRead bytes.now room.items c.turns.items c.rest.now) }
 {
     let mut turns = Vec::new(heap);
     let mut room = Some(room);
@@ -91,15 +91,9 @@ pub fn read_calls(heap: Global, bytes: &[u8], room: Vec<u8>) -> Result<Calls, Al
                 turns.push(turn)?;
                 rest = behind;
             }
-            Err(CallFault::Malformed) => return Ok(Calls {
-                turns,
-                malformed: true,
-            }),
+            Err(CallFault::Malformed) => return Ok(Calls { turns, rest }),
             Err(CallFault::Memory(error)) => return Err(error),
         }
     }
-    Ok(Calls {
-        turns,
-        malformed: false,
-    })
+    Ok(Calls { turns, rest })
 }

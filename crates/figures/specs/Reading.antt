@@ -1,4 +1,6 @@
--- What a reader of one thing, or of several of a kind, says of the bytes in front of it.
+-- What a reader of one thing, or of several of a kind, says of the bytes in front of it. A contract
+-- names both cases, `MatchOption r (Lacks ..) (λ p. Reads ..)`, since what was read is seen in
+-- several ways: as it is, by its bytes, or as the value of a cell.
 use Rattle.std.specs.Prelude.{◌≡◌, ℕ, List, ◌++◌, length, ◌≢◌}
 use Rattle.std.specs.List.{flat_map, AllByRecursion}
 

@@ -1,8 +1,9 @@
 // Decimal figures in lent bytes. A figure has no leading zero and no plus; `-0` is none.
-// Each function says what stands in front of the bytes, and gives what is behind it, or says that no such thing stands there.
+// Each function says what stands in front of the bytes, and gives what is behind it, or says that no
+// such thing stands there.
 #![tactic(auto)]
 
-ghost use Rattle.std.specs.Prelude.{◌≡◌, ℕ, ◌+◌, ◌-◌, ◌*◌, ◌^◌, ◌<◌, ◌≤◌, ◌↔◌, List, ◌∷◌, length, negsuc, MatchOption, IsTrue, ◌≢◌};
+ghost use Rattle.std.specs.Prelude.{◌≡◌, ℕ, ◌-◌, ◌^◌, ◌<◌, ◌≤◌, ◌↔◌, List, ◌∷◌, length, negsuc, MatchOption, IsTrue, ◌≢◌};
 ghost use Rattle.figures.specs.Figures.{Run, stop_byte, Figured, NoFigure, Pieced, NoPiece, Numbered, NoNumber, Numeric, NoDouble};
 
 // What ends a figure: the space before the next part of its line, or the end of the line.
@@ -75,7 +76,8 @@ pub fn figure(s: &[u8], stop: Stop, most: u64) -> Option<(u64, &[u8])>
     Some((n as u64, rest))
 }
 
-// A length from `least` to `most`, a space, so many bytes of any kind, and the line's end: the bytes.
+// A length from `least` to `most`, a space, so many bytes of any kind, and the line's end: the
+// bytes.
 pub fn piece(s: &[u8], least: u64, most: u64) -> Option<(&[u8], &[u8])>
     ensures { MatchOption result (NoPiece least most s.now)
         (λ p. Pieced least most s.now p.0.now p.1.now) }

@@ -68,11 +68,11 @@ impl BindFault {
     }
 }
 
-// A step that gave no failure.
+// A step that gave no failure, with SQLite's code for it.
 #[derive(Clone, Copy, PartialEq, Eq, Debug)]
 pub enum Stepped {
-    Row,
-    Done,
+    Row = 100,
+    Done = 101,
 }
 
 // A step's failure, with the host's code.
@@ -167,8 +167,9 @@ pub trait Host {
     fn reset(&mut self)
         ensures { meaning self.new ≡ reset_after (meaning self.old) };
 
-    // One step of the program, on the bytes that are lent to it. Text and room are two slices: as
-    // one struct, clauses would name them by way of it, and a caller lends the room to write in.
+    // One step of the program, on the bytes that are lent to it. (Text and room are two slices: as
+    // one struct, clauses would name them by way of it, and a statement's caller lends the room for
+    // writing.)
     fn step(&mut self, text: &[u8], room: &[u8]) -> Result<Stepped, StepFault>
         ensures answer { result ≡ step_answer (meaning self.old) text.now room.now }
         ensures after { meaning self.new ≡ step_after (meaning self.old) text.now room.now };

@@ -13,6 +13,7 @@ use Rattle.host.specs.declared.BindFault.TheVariants.{Misuse, Range, TooBig}
 use Rattle.binds.specs.declared.refusal.Refusal.{Refusal}
 use Rattle.binds.specs.declared.taking.Unbindable.{Unbindable}
 use Rattle.binds.specs.declared.taking.Unbindable.TheVariants.{Unpaired, Fault}
+use Rattle.binds.proofs.Collect.{leases_count}
 use Rattle.binds.specs.Pairs.{Pair, owned_span, span_length, owned_count, leases_from, byte_slots}
 use Rattle.binds.specs.Refusals.{refusal_number, refusal_figures}
 use Rattle.binds.specs.Cleared.{nulled, cleared, count_up}
@@ -129,14 +130,6 @@ attempt m n ps r =
       slots = slots;
       rests = record { still = still_on (rested m) n t.host r.still b.still; each = omega (arith, b.inside, r.each) };
     }
-
--- each owned value has one lease
-pub leases_count : (at : ℕ) (ps : List Pair) → length (leases_from at ps) ≡ owned_count ps
-unfolding leases_from owned_count
-leases_count at [] = refl
-leases_count at (p ∷ ps) =
-    let again = leases_count (at + span_length (owned_span p.1)) ps in
-    grind (arith, length-append)
 
 -- what is kept after one turn more, by what it came to
 abbrev After : Meaning → Past → Event → State → Type 0

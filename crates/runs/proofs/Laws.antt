@@ -11,7 +11,8 @@ use Rattle.runs.specs.Turns.{asked, lent_at, Desk, At, turn_says, turn_goes, sta
 use Rattle.runs.specs.Past.{Past, past_of, live_in, slots_from, forget, room_slots, Steps, BuffersKept, Copies}
 use Rattle.runs.specs.declared.turns.Turn.{Turn}
 use Rattle.runs.specs.declared.turns.Answer.{Answer}
-use Rattle.runs.proofs.Kept.{Plain, Holding, Kept, leases_count, kept_turn, kept_start, live_placed}
+use Rattle.binds.proofs.Collect.{leases_count}
+use Rattle.runs.proofs.Kept.{Plain, Holding, Kept, kept_turn, kept_start, live_placed}
 
 -- over a list of turns
 kept_all : (m : Meaning) (ts : List Turn) (a : At) (h : Past) → Kept m h a.state → Kept m (past_of a h ts (answers_to a ts)) (after_all a ts).state

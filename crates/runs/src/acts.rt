@@ -1,3 +1,4 @@
+// Performing turns: one call each, on the buffers that it lends, and whole lists of them.
 ghost use Rattle.std.specs.Prelude.{◌≡◌, [], IfOk};
 ghost use Rattle.statement.specs.State.{state_of};
 ghost use Rattle.runs.specs.Turns.{accepted_figures, answer_number, answer_figures, desk, asked, says, goes, leaves, lent_bytes, desk_of, at_of, kept_text, turn_says, turn_goes, starting, Answers};

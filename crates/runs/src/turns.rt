@@ -4,6 +4,7 @@ use binds::refusal::Refusal;
 use statement::stmt::{Executed, Statement};
 use values::SqliteType;
 
+// A call by what it asks.
 #[derive(Drop)]
 pub enum Call {
     Bind {

@@ -1,6 +1,5 @@
 -- The program of a script: its outcomes in order, whatever the slots hold.
 use Rattle.std.specs.Prelude.{◌≡◌, ℕ, ◌+◌, Bool, false, List, [], ◌∷◌, ◌++◌, length, drop, replicate, Some, None, Option}
-use Rattle.std.specs.Borrow.{Bor}
 use Rattle.values.specs.Value.{Value}
 use Rattle.host.specs.Outcome.{Outcome, row, done, failed}
 use Rattle.host.specs.Meaning.{Meaning, Program, Copies}
@@ -33,10 +32,12 @@ script_meaning x ss place stepped current limit code =
 unfoldable pub script_start : Sheet → ℕ → Meaning
 script_start x limit = script_meaning x (replicate (length x.params) slot.Null) 0 false None limit 0
 
--- The row whose values the bytes begin with.
-abbrev pub row_at : ℕ → Option (Bor (List ℕ)) → Option (List Value)
+-- The current row, by what the last step gave.
+abbrev pub row_at : ℕ → Option Move → Option (List Value)
 row_at columns None = None
-row_at columns (Some values) = Some (values_at columns values.now).0
+row_at columns (Some (Row values)) = Some (values_at columns values.now).0
+row_at columns (Some Done) = None
+row_at columns (Some (Failed code)) = None
 
 -- The outcomes os and the last line stand at the front of s.
 abbrev pub Stands : List ℕ → List Outcome → Type 0

@@ -5,6 +5,7 @@ ghost use Rattle.script.specs.Program.{Stands};
 
 use host::Slot;
 use sheet::CheckedSheet;
+use sheet::play::Move;
 use values::few::Few;
 
 pub mod playing;
@@ -17,9 +18,8 @@ pub struct ScriptHost<'a> {
     // The bytes from the next outcome on, and which one that is, counted from 0.
     place: &'a [u8],
     index: usize,
-    stepped: bool,
-    // The bytes that begin with the values of the current row.
-    row: Option<&'a [u8]>,
+    // What the last step gave, if one was made since the last reset.
+    last: Option<Move<'a>>,
     byte_limit: usize,
     code: u32,
     ghost each: { length slots ≡ length (sheet_at sheet.bytes.now).params },

@@ -20,9 +20,6 @@ flat_three a b d r = simp append_assoc
 pub flat_heading : (h : Heading) (r : List ℕ) → rendered_heading h ++ r ≡ decimal h.columns ++ (32 ∷ (decimal h.parameters ++ (32 ∷ (decimal h.copy_limit ++ (10 ∷ r)))))
 flat_heading h r = flat_three (decimal h.columns) (decimal h.parameters) (decimal h.copy_limit) r
 
-pub head_is : (x y : ℕ) (xs ys : List ℕ) → x ∷ xs ≡ y ∷ ys → x ≡ y
-head_is x y xs ys e = cc
-
 -- The heading.
 first_same : (s t : List ℕ) (n : ℕ) (h : Heading) (rest : List ℕ) → Figured 32 16 s n t → GoodHeading h → s ≡ rendered_heading h ++ rest → t ≡ decimal h.parameters ++ (32 ∷ (decimal h.copy_limit ++ (10 ∷ rest)))
 first_same s t n h rest f g e =

@@ -8,7 +8,7 @@ use Rattle.figures.specs.Reading.{Lacks, Block}
 use Rattle.sheet.proofs.Runs.{Line, name, param, value, head, written, Left, left, more, Fits, Runs, runs_append, heads, names_run, params_run, values_run, outcomes_run}
 use Rattle.sheet.proofs.Whole.{begin, heading_same, refused, refused_first, written_outcomes}
 use Rattle.sheet.proofs.Decoded.{sheet_at_lem, render_bytes}
-use Rattle.sheet.specs.Sheet.{Sheet, rendered_heading, rendered_name, rendered_param, rendered_value, row_line, outcome_lines, together, render, GoodHeading, GoodName, GoodParam, GoodValue, GoodOutcome, Suits, names_column, WellFormed, Holds, RefusedAt, body_lines}
+use Rattle.sheet.specs.Sheet.{heading_of, Sheet, rendered_heading, rendered_name, rendered_param, rendered_value, row_line, outcome_lines, together, render, GoodHeading, GoodName, GoodParam, GoodValue, GoodOutcome, Suits, names_column, WellFormed, Holds, RefusedAt, body_lines}
 use Rattle.sheet.specs.Decode.{sheet_at}
 use Rattle.sheet.specs.Lines.{Moved, Stuck, Breaks, rendered_head, GoodHead, Outcomes, OutcomesBreak, Ended}
 use Rattle.sheet.specs.Places.{Accepted}
@@ -195,7 +195,7 @@ pub accepted : {s r t u o rest : List ℕ} {l n : ℕ} {h : Heading} {table : Bo
     Moved rendered_heading GoodHeading r l h t n → Block rendered_name GoodName t h.columns u →
     (b : Block rendered_param (GoodParam h.columns) u h.parameters o) →
     table ≡ names_column b.items → Ended o h.columns table rest →
-    Accepted s h.columns h.parameters h.copy_limit t o rest table
+    Accepted s h t o rest table
 accepted {s = s} {o = o} {rest = rest} {h = h} e x y z t w =
     let ns = y.items in
     let ps = z.items in
@@ -226,9 +226,7 @@ accepted {s = s} {o = o} {rest = rest} {h = h} e x y z t w =
       sheet = sheet;
       holds = holds;
       only = λ other k. sym (sheet_at_lem s other k) ∙ sheet_at_lem s sheet holds;
-      columns_is = sym cn;
-      parameters_is = sym cp;
-      copies_is = refl;
+      heading_is = sym hd;
       table_is = t;
       begins = cc;
       names_are = cc;
@@ -238,29 +236,24 @@ accepted {s = s} {o = o} {rest = rest} {h = h} e x y z t w =
     }
 
 -- What a checked sheet keeps, of the content x.
-pub record Kept (s : List ℕ) (x : Sheet) (columns parameters copies : ℕ)
-    (names outcomes rest : List ℕ) (table : Bool) : Type 0 where
+pub record Kept (s : List ℕ) (x : Sheet) (heading : Heading) (names outcomes rest : List ℕ)
+    (table : Bool) : Type 0 where
   pub good : WellFormed x
-  pub every : columns ≡ length x.names
-  pub each : parameters ≡ length x.params
-  pub copies_is : copies ≡ x.copy_limit
+  pub headed : heading ≡ heading_of x
   pub tabled : table ≡ names_column x.params
   pub named : names ≡ flat_map rendered_name x.names ++ (flat_map rendered_param x.params ++ outcomes)
   pub stands : outcomes ≡ together (body_lines x.outcomes) ++ rest
   pub whole : s ≡ together (render x) ++ rest
 
 -- It is the content that the decoder gives.
-pub kept : {s names outcomes rest : List ℕ} {columns parameters copies : ℕ} {table : Bool} →
-    Accepted s columns parameters copies names outcomes rest table →
-    Kept s (sheet_at s) columns parameters copies names outcomes rest table
-kept {s = s} {names = ns} {outcomes = os} {rest = r} {columns = c} {parameters = p} {copies = m}
-    {table = t} a =
-    subst (λ z. Kept s z c p m ns os r t) (sym (sheet_at_lem s a.sheet a.holds))
+pub kept : {s names outcomes rest : List ℕ} {heading : Heading} {table : Bool} →
+    Accepted s heading names outcomes rest table →
+    Kept s (sheet_at s) heading names outcomes rest table
+kept {s = s} {names = ns} {outcomes = os} {rest = r} {heading = h} {table = t} a =
+    subst (λ z. Kept s z h ns os r t) (sym (sheet_at_lem s a.sheet a.holds))
     (record {
       good = a.holds.good;
-      every = a.columns_is;
-      each = a.parameters_is;
-      copies_is = a.copies_is;
+      headed = a.heading_is;
       tabled = a.table_is;
       named = a.names_are;
       stands = a.ends;

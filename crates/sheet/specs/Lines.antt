@@ -10,7 +10,7 @@ use Rattle.sheet.specs.declared.lines.Cell.TheVariants.{Null, Long, Double, Text
 use Rattle.sheet.specs.declared.lines.Head.{Head}
 use Rattle.sheet.specs.declared.lines.Head.TheVariants.{Row, Done, Failed, End}
 
--- A reader at the bytes s, where line l begins, read v, and is then at rest, where line m begins.
+-- A reader at the bytes s, where line l begins, read v; what is left is `rest`, where line m begins.
 pub record Moved {V : Type 0} (write : V → List ℕ) (Good : V → Type 0)
     (s : List ℕ) (l : ℕ) (v : V) (rest : List ℕ) (m : ℕ) : Type 0 where
   pub good : Good v

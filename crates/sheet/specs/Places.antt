@@ -4,6 +4,7 @@ use Rattle.std.specs.Borrow.{Bor}
 use Rattle.std.specs.List.{flat_map, AllByRecursion}
 use Rattle.host.specs.Outcome.{Outcome, row, done, failed}
 use Rattle.sheet.specs.Sheet.{Sheet, heading_of, rendered_heading, rendered_name, rendered_param, rendered_value, body_lines, render, together, GoodOutcome, names_column, Holds}
+use Rattle.sheet.specs.declared.lines.Heading.{Heading}
 use Rattle.sheet.specs.declared.play.Played.{Played}
 use Rattle.sheet.specs.declared.play.Move.{Move}
 use Rattle.sheet.specs.declared.play.Move.TheVariants.{Row, Done, Failed}
@@ -14,22 +15,20 @@ pub record At (s : List ℕ) (columns : ℕ) (os : List Outcome) : Type 0 where
   pub rest : List ℕ
   pub begins : s ≡ together (body_lines os) ++ rest
 
--- s holds one sheet, of which these are the figures.
+-- s holds one sheet, of which the heading has the figures.
 -- From `names` on stand its names, its parameters and its outcomes, from `outcomes` on the latter.
 -- Behind the last line stands `rest`.
-pub record Accepted (s : List ℕ) (columns parameters copies : ℕ)
-    (names outcomes rest : List ℕ) (table : Bool) : Type 0 where
+pub record Accepted (s : List ℕ) (heading : Heading) (names outcomes rest : List ℕ)
+    (table : Bool) : Type 0 where
   pub sheet : Sheet
   pub holds : Holds s sheet
   pub only : (other : Sheet) → Holds s other → other ≡ sheet
-  pub columns_is : columns ≡ length sheet.names
-  pub parameters_is : parameters ≡ length sheet.params
-  pub copies_is : copies ≡ sheet.copy_limit
+  pub heading_is : heading ≡ heading_of sheet
   pub table_is : table ≡ names_column sheet.params
   pub begins : s ≡ rendered_heading (heading_of sheet) ++ names
   pub names_are :
       names ≡ flat_map rendered_name sheet.names ++ (flat_map rendered_param sheet.params ++ outcomes)
-  pub outcomes_are : At outcomes columns sheet.outcomes
+  pub outcomes_are : At outcomes heading.columns sheet.outcomes
   pub ends : outcomes ≡ together (body_lines sheet.outcomes) ++ rest
   pub whole : s ≡ together (render sheet) ++ rest
 

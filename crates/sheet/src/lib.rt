@@ -1,5 +1,6 @@
 // A sheet: the columns, the parameters and the outcomes of a statement, read out of lent bytes.
-// It is lines, each ending in byte 10: the counts, a line for each column and for each parameter, the outcomes, and the line `E`.
+// It is lines, each ending in byte 10: the counts, a line for each column and for each parameter,
+// the outcomes, and the line `E`.
 #![tactic(auto)]
 
 ghost use Rattle.std.specs.Prelude.{◌≡◌, take, MatchResult};
@@ -32,12 +33,12 @@ fn front(bytes: &[u8]) -> &[u8]
     bytes.get(..LIMIT).unwrap_or(bytes)
 }
 
-// The sheet in front of the bytes: the only one that stands there, or the line at which there is none.
+// The sheet in front of the bytes: the only one that stands there, or the line at which there is
+// none.
 pub fn read_sheet<'a>(bytes: &'a [u8]) -> Result<CheckedSheet<'a>, BadSheet>
     ensures { MatchResult result
         (λ c. (c.bytes.now ≡ take 65536 bytes.now) ×
-        Accepted c.bytes.now c.columns c.parameters c.copy_limit
-        c.names.now c.outcomes.now c.rest.now c.table)
+        Accepted c.bytes.now c.heading c.names.now c.outcomes.now c.rest.now c.table)
         (λ b. RefusedAt (take 65536 bytes.now) b.line) }
 {
     let bytes = front(bytes);
@@ -50,9 +51,7 @@ pub fn read_sheet<'a>(bytes: &'a [u8]) -> Result<CheckedSheet<'a>, BadSheet>
     reader.outcomes(heading.columns, table)?;
     Ok(CheckedSheet {
         bytes,
-        columns: heading.columns,
-        parameters: heading.parameters,
-        copy_limit: heading.copy_limit,
+        heading,
         table,
         names,
         outcomes,
@@ -60,14 +59,15 @@ pub fn read_sheet<'a>(bytes: &'a [u8]) -> Result<CheckedSheet<'a>, BadSheet>
     })
 }
 
-// The decoder gives back the sheet that bytes hold.
+// The decoder gives back the sheet that bytes hold. (A function, so that a contract says it.)
 pub fn sheet_decodes() -> u8
     ensures { Decodes }
 {
     0
 }
 
-// No bytes are both accepted and refused, and no bytes are refused at two lines.
+// No bytes are both accepted and refused, and no bytes are refused at two lines. (A function, so
+// that a contract says it.)
 pub fn answers_exclude() -> u8
     ensures { Exclusive }
 {

@@ -1,6 +1,6 @@
 // The lines of a sheet: each function reads one kind of line in front of the bytes,
 // and gives what is behind it, or says that no such line stands there.
-ghost use Rattle.std.specs.Prelude.{ℕ, ◌-◌, ◌<◌, ◌↔◌, length, IsTrue, MatchOption, slice_index};
+ghost use Rattle.std.specs.Prelude.{ℕ, ◌<◌, ◌↔◌, length, IsTrue, MatchOption, slice_index};
 ghost use Rattle.std.specs.Int.{IsInRange};
 ghost use Rattle.figures.specs.Figures.{Figured};
 ghost use Rattle.figures.specs.Reading.{Reads, Lacks};
@@ -8,6 +8,7 @@ ghost use Rattle.sheet.specs.Sheet.{rendered_heading, rendered_name, rendered_pa
 ghost use Rattle.sheet.specs.Lines.{cell_of, rendered_head, PlainHead, SuitsHead, GoodHead, NoCode};
 
 use figures::{Stop, double, figure, lettered, number, piece};
+use host::Stepped;
 
 // The figures of the first line.
 #[derive(Clone, Copy, PartialEq, Eq, Debug)]
@@ -52,9 +53,9 @@ const BYTES: u64 = 4096;
 // The last code of a failure; 100 says that a row is there, and 101 that there are no more.
 const CODE: u64 = 65535;
 
-const ROW: u64 = 100;
+const ROW: u64 = Stepped::Row as u64;
 
-const DONE: u64 = 101;
+const DONE: u64 = Stepped::Done as u64;
 
 // The first line.
 pub(crate) fn heading_line(s: &[u8]) -> Option<(Heading, &[u8])>
@@ -74,7 +75,8 @@ pub(crate) fn heading_line(s: &[u8]) -> Option<(Heading, &[u8])>
 
 // Whether each byte is graphic.
 fn graphic(s: &[u8]) -> bool
-    ensures { IsTrue result ↔ ((k : ℕ) → k < length s.now → IsInRange 33 126 (slice_index s.now k)) }
+    ensures { IsTrue result ↔
+        ((k : ℕ) → k < length s.now → IsInRange 33 126 (slice_index s.now k)) }
 {
     s.iter().all(|b| b.is_ascii_graphic())
 }
@@ -160,7 +162,7 @@ pub(crate) fn head_line(s: &[u8]) -> Option<(Head, &[u8])>
     Some((Head::Failed(code), rest))
 }
 
-// Whether this line may stand in a table or, if it is none, in a script.
+// Whether this line may stand in the sheet, which is a table or is not: a table has rows only.
 fn suits(head: Head, table: bool) -> bool
     ensures { IsTrue result ↔ SuitsHead table head }
 {
@@ -170,7 +172,7 @@ fn suits(head: Head, table: bool) -> bool
     }
 }
 
-// The same in a sheet that is a table or is none.
+// The same, of those that may stand in the sheet.
 pub(crate) fn outcome_line(s: &[u8], table: bool) -> Option<(Head, &[u8])>
     ensures { MatchOption result (Lacks rendered_head (GoodHead table) s.now)
         (λ p. Reads rendered_head (GoodHead table) s.now p.0 p.1.now) }

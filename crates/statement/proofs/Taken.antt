@@ -2,7 +2,7 @@
 use Rattle.std.proofs.Common.{◌≡◌, ℕ, ◌+◌, true, List, [], ◌∷◌, length, None, refl, arith}
 use Rattle.std.proofs.lemmas.Grind.{common_steps}
 use Rattle.host.specs.Meaning.{Meaning}
-use Rattle.binds.specs.Pairs.{Pair, borrowed_span, owned_span, all_fit, all_inside, span_length, owned_count, leases_from}
+use Rattle.binds.specs.Pairs.{Pair, borrowed_span, owned_span, all_fit, all_inside, span_length}
 use Rattle.binds.specs.Tried.{one_after, bind_from}
 
 -- values inside their buffers: the borrowed ones, and the owned ones
@@ -19,11 +19,3 @@ all_bound m n at [] e = omega arith
 all_bound m n at (p ∷ ps) e =
     let again = all_bound (one_after m (n + 1) at p) (n + 1) (at + span_length (owned_span p.1)) ps in
     grind arith
-
--- each owned value has one lease
-pub leases_count : (at : ℕ) (ps : List Pair) → length (leases_from at ps) ≡ owned_count ps
-unfolding leases_from owned_count
-leases_count at [] = refl
-leases_count at (p ∷ ps) =
-    let again = leases_count (at + span_length (owned_span p.1)) ps in
-    grind (arith, common_steps)

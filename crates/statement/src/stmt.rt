@@ -19,7 +19,7 @@ pub struct Binding {
     pub lengths: Lengths,
 }
 
-// The rows that were delivered and not yet released.
+// The rows that were delivered and not yet released: how many there are, with no buffer beside it.
 #[derive(Clone, Copy, PartialEq, Eq, Debug)]
 pub struct HeldRows {
     count: usize,
@@ -48,6 +48,7 @@ pub struct Statement<X> {
     // none at rest
     binding: Option<Binding>,
     held: HeldRows,
+    // beside the binding, since a collection is begun on the ledger before there is one
     ledger: Ledger,
     nulls: Few<usize, 32>,
     steps: u32,

@@ -22,12 +22,15 @@ mod tests {
         SqliteBindValue::String(Span { start: 0, len: 2 }),
     )];
 
+    // A statement over a script host, set up.
+    fn set_up(bytes: &[u8]) -> Result<Statement<ScriptHost<'_>>, Fail> {
+        let sheet = read_sheet(bytes).map_err(|_| Fail::new("bad sheet"))?;
+        Ok(Statement::new(ScriptHost::new(sheet, 4096)))
+    }
+
     #[test]
     fn none_before_the_first_return(rt: HostRuntime) -> Result<(), Fail> {
-        let Ok(sheet) = read_sheet(ROW) else {
-            return Err(Fail::new("bad sheet"));
-        };
-        let mut statement = Statement::new(ScriptHost::new(sheet, 4096));
+        let mut statement = set_up(ROW)?;
         assert!(rt; statement.report().is_none());
         let mut room = [0u8; 4];
         let _ = statement.bind(9, &TEXT, b"", b"xy", &mut room);
@@ -37,10 +40,7 @@ mod tests {
 
     #[test]
     fn a_failure_tells_its_code(rt: HostRuntime) -> Result<(), Fail> {
-        let Ok(sheet) = read_sheet(FAILING) else {
-            return Err(Fail::new("bad sheet"));
-        };
-        let mut statement = Statement::new(ScriptHost::new(sheet, 4096));
+        let mut statement = set_up(FAILING)?;
         let mut room = [0u8; 4];
         let _ = statement.bind(9, &TEXT, b"", b"xy", &mut room);
         let _ = statement.execute(b"", &mut room);
@@ -50,10 +50,7 @@ mod tests {
 
     #[test]
     fn a_row_and_an_end_tell_0(rt: HostRuntime) -> Result<(), Fail> {
-        let Ok(sheet) = read_sheet(ROW) else {
-            return Err(Fail::new("bad sheet"));
-        };
-        let mut statement = Statement::new(ScriptHost::new(sheet, 4096));
+        let mut statement = set_up(ROW)?;
         let mut room = [0u8; 4];
         let _ = statement.bind(1, &TEXT, b"", b"xy", &mut room);
         let _ = statement.execute(b"", &mut room);
@@ -66,10 +63,7 @@ mod tests {
 
     #[test]
     fn an_undone_bind_tells_nothing(rt: HostRuntime) -> Result<(), Fail> {
-        let Ok(sheet) = read_sheet(ROW) else {
-            return Err(Fail::new("bad sheet"));
-        };
-        let mut statement = Statement::new(ScriptHost::new(sheet, 4096));
+        let mut statement = set_up(ROW)?;
         let mut room = [7u8; 4];
         let unpaired = [(
             SqliteType::Binary,

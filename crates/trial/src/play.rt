@@ -5,6 +5,7 @@ use runs::turns::Reply;
 use script::player::ScriptHost;
 use sheet::{CheckedSheet, read_sheet};
 use std::alloc::{AllocError, Global};
+use std::fmt;
 use std::fmt::Write;
 
 // The most bytes of a bound value.
@@ -13,25 +14,37 @@ const BYTE_LIMIT: usize = 4096;
 // How many bytes the room has.
 const ROOM: usize = 4096;
 
-// Shows an answer: the call's letter, the number and the two figures. (A reply is a `Result` of the
-// library's, for which no `Display` can be written here.)
-fn show(shown: &mut String, letter: u8, reply: &Reply) -> Result<(), AllocError> {
-    let call = char::from(letter);
-    let number = number(reply);
-    let (first, second) = figures(reply);
-    writeln!(shown, "{call} {number} {first} {second}")
+// What is shown of a call: its letter, and the number and the two figures that it is answered.
+#[derive(Clone, Copy)]
+struct Line<'a> {
+    letter: u8,
+    reply: &'a Reply,
+}
+
+impl fmt::Display for Line<'_> {
+    fn fmt<W: fmt::Write>(&self, f: &mut fmt::Formatter<W>) -> fmt::Result {
+        let call = char::from(self.letter);
+        let number = number(self.reply);
+        let (first, second) = figures(self.reply);
+        write!(f, "{call} {number} {first} {second}")
+    }
 }
 
 // Performs the calls behind a sheet and shows each, and `?` where a malformed call comes next.
-fn show_calls(heap: Global, sheet: CheckedSheet<'_>, calls: Calls) -> Result<String, AllocError> {
-    let Calls { turns, malformed } = calls;
+fn show_calls(
+    heap: Global,
+    sheet: CheckedSheet<'_>,
+    calls: Calls<'_>,
+) -> Result<String, AllocError> {
+    let Calls { turns, rest } = calls;
     let letters: Vec<u8> = turns.iter().map(|turn| letter(&turn.call)).collect(heap)?;
     let performed = perform_all(heap, ScriptHost::new(sheet, BYTE_LIMIT), turns)?;
     let mut shown = String::new(heap);
-    for (letter, reply) in letters.iter().zip(performed.answers.iter()) {
-        show(&mut shown, *letter, reply)?;
+    for (&letter, reply) in letters.iter().zip(performed.answers.iter()) {
+        let line = Line { letter, reply };
+        writeln!(shown, "{line}")?;
     }
-    if malformed {
+    if !rest.is_empty() {
         shown.push_str("?\n")?;
     }
     Ok(shown)

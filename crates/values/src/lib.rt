@@ -1,12 +1,12 @@
 // The kinds of values that a statement binds and a row holds, and short lists in a fixed table.
 #![tactic(auto)]
 
-ghost use Rattle.std.specs.Prelude.{◌<◌};
 ghost use Rattle.values.specs.Types.{TypeOf};
 
 pub mod few;
 
-// The type that is declared for a value to bind, in diesel's order, with the number by which a value line names it.
+// The type that is declared for a value to bind, in diesel's order, with the number by which a value
+// line names it.
 #[derive(Clone, Copy, PartialEq, Eq, Debug)]
 pub enum SqliteType {
     Binary = 1,

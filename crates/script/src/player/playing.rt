@@ -12,11 +12,6 @@ use sheet::CheckedSheet;
 use sheet::play::{Move, next_outcome};
 use values::few::Few;
 
-// The codes of a row and of done.
-const ROW: u32 = 100;
-
-const DONE: u32 = 101;
-
 impl<'a> ScriptHost<'a> {
     // At the first outcome of a sheet that was read, with every slot null.
     #[tactic(auto, unfolding(crate::specs::Program::script_start))]
@@ -25,11 +20,10 @@ impl<'a> ScriptHost<'a> {
     {
         ScriptHost {
             sheet,
-            slots: Few::filled(Slot::Null, sheet.parameters as usize),
+            slots: Few::filled(Slot::Null, sheet.heading.parameters as usize),
             place: sheet.outcomes,
             index: 0,
-            stepped: false,
-            row: None,
+            last: None,
             byte_limit,
             code: 0,
         }
@@ -38,10 +32,10 @@ impl<'a> ScriptHost<'a> {
     // The next outcome, the bytes behind it, and the number of the one after it.
     // Past the last outcome it is done, and starts over.
     fn advance(&self) -> (Move<'a>, &'a [u8], usize)
-        ensures { Advanced self.now.sheet.columns (sheet_at self.now.sheet.bytes.now).outcomes
+        ensures { Advanced self.now.sheet.heading.columns (sheet_at self.now.sheet.bytes.now).outcomes
             self.now.index result.0 result.1.now result.2 }
     {
-        match next_outcome(self.place, self.sheet.columns) {
+        match next_outcome(self.place, self.sheet.heading.columns) {
             Some(played) => (played.outcome, played.next, self.index + 1),
             None => (Move::Done, self.sheet.outcomes, 0),
         }
@@ -59,7 +53,7 @@ impl<'a> ScriptHost<'a> {
     fn may_bind(&self, index: usize, slot: Slot) -> Result<(), BindFault>
         ensures { result ≡ bind_answer (meaning_of self.now) index slot }
     {
-        if self.stepped {
+        if self.last.is_some() {
             return Err(BindFault::Misuse);
         }
         if !self.has_slot(index) {
@@ -76,11 +70,11 @@ impl<'a> Host for ScriptHost<'a> {
     ghost meaning = { meaning_of };
 
     fn parameter_count(&self) -> usize {
-        self.sheet.parameters as usize
+        self.sheet.heading.parameters as usize
     }
 
     fn column_count(&self) -> usize {
-        self.sheet.columns as usize
+        self.sheet.heading.columns as usize
     }
 
     fn column_name(&self, index: usize) -> Option<&[u8]> {
@@ -104,8 +98,7 @@ impl<'a> Host for ScriptHost<'a> {
     fn reset(&mut self) {
         self.place = self.sheet.outcomes;
         self.index = 0;
-        self.stepped = false;
-        self.row = None;
+        self.last = None;
     }
 
     #[tactic(auto, unfolding(host::specs::Meaning::ran, host::specs::Meaning::step_answer, host::specs::Meaning::step_after))]
@@ -113,23 +106,17 @@ impl<'a> Host for ScriptHost<'a> {
         let (outcome, place, index) = self.advance();
         self.place = place;
         self.index = index;
-        self.stepped = true;
-        self.row = None;
-        match outcome {
-            Move::Row(values) => {
-                self.row = Some(values);
-                self.code = ROW;
-                Ok(Stepped::Row)
-            }
-            Move::Done => {
-                self.code = DONE;
-                Ok(Stepped::Done)
-            }
-            Move::Failed(code) => {
-                self.code = code;
-                Err(StepFault { code })
-            }
-        }
+        self.last = Some(outcome);
+        let answer = match outcome {
+            Move::Row(_) => Ok(Stepped::Row),
+            Move::Done => Ok(Stepped::Done),
+            Move::Failed(code) => Err(StepFault { code }),
+        };
+        self.code = match answer {
+            Ok(stepped) => stepped as u32,
+            Err(fault) => fault.code,
+        };
+        answer
     }
 
     fn code(&self) -> u32 {

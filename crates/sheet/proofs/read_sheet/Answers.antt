@@ -32,7 +32,7 @@ returns-in_err-outcomes c =
 pub invariant_of-result : goal.invariant_of-result
 invariant_of-result c =
     let k = kept (accepted c.new-reader.ensures.rest c.in_ok-heading.ensures c.in_ok-names.ensures.0 c.in_ok-table.ensures.0 c.in_ok-table.ensures.1 c.in_ok-outcomes.ensures) in
-    record { good = k.good; every = k.every; each = k.each; copies = k.copies_is; tabled = k.tabled; named = k.named; stands = k.stands; whole = k.whole }
+    record { good = k.good; headed = k.headed; tabled = k.tabled; named = k.named; stands = k.stands; whole = k.whole }
 
 pub returns : goal.returns
 returns c = (c.front-bytes.ensures, accepted c.new-reader.ensures.rest c.in_ok-heading.ensures c.in_ok-names.ensures.0 c.in_ok-table.ensures.0 c.in_ok-table.ensures.1 c.in_ok-outcomes.ensures)

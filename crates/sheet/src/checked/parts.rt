@@ -13,7 +13,7 @@ impl<'a> CheckedSheet<'a> {
         ensures { ByName result (sheet_at self.now.bytes.now).names index }
     {
         let i = index as u64;
-        if i < self.columns {
+        if i < self.heading.columns {
             name_at(self.names, i)
         } else {
             None

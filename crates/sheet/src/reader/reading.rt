@@ -1,4 +1,5 @@
-// The reader's methods: each reads the next line, or lines of a kind, or says that the sheet is bad there.
+// The reader's methods: each reads the next line, or lines of a kind, or says that the sheet is bad
+// there.
 ghost use Rattle.std.specs.Prelude.{◌≡◌, ◌+◌, ◌<◌, length, MatchOption, MatchResult};
 ghost use Rattle.figures.specs.Reading.{Block};
 ghost use Rattle.sheet.specs.Sheet.{rendered_heading, rendered_name, rendered_param, rendered_value, GoodHeading, GoodName, GoodParam, GoodValue, names_column};
@@ -22,7 +23,7 @@ impl<'a> SheetReader<'a> {
         }
     }
 
-    // Past the next line, if one was read: what it says, and the bytes behind it.
+    // Moves past the next line, if one was read, and gives what it says.
     fn past<T>(&mut self, line: Option<(T, &'a [u8])>) -> Result<T, BadSheet>
         requires { MatchOption line (Unit {0}) (λ p. length p.1.now < length self.old.rest.now) }
         ensures { MatchResult result
@@ -116,8 +117,9 @@ impl<'a> SheetReader<'a> {
         Ok(table)
     }
 
-    // The values of a row. (A loop like that over names: one function for both would have to say of
-    // any reader where it stops, and each caller would turn that into `Block` and `Breaks`.)
+    // The values of a row. (A loop like that over names. One function for both would take a trait of
+    // the kinds of lines, with how each is written and when it is good as its members: more than two
+    // loops of a line.)
     pub(crate) fn row(&mut self, columns: u64) -> Result<(), BadSheet>
         ensures { MatchResult result
             (λ _. Block rendered_value GoodValue self.old.rest.now columns self.new.rest.now ×

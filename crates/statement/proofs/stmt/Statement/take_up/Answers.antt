@@ -1,7 +1,8 @@
 use Rattle.std.proofs.Common.{arith}
 use Rattle.std.proofs.lemmas.Grind.{common_steps}
 use Rattle.std.proofs.lemmas.List.{take_all}
-use Rattle.statement.proofs.Taken.{inside_parts, all_bound, leases_count}
+use Rattle.binds.proofs.Collect.{leases_count}
+use Rattle.statement.proofs.Taken.{inside_parts, all_bound}
 use Rattle.statement.proofs.stmt.Statement.take_up.Goals as goal
 
 pub write_owned-requires-clause-inside : goal.write_owned-requires-clause-inside

@@ -78,8 +78,8 @@ impl Ledger {
 pub struct Full;
 
 // Enters the leases of a collection. Unless the collection is handed on, the ledger is put back as
-// it was. Each contract says which ledger is lent and what is put back, since no invariant can name
-// the reference that a collection was begun with.
+// it was. Beginning and entering say which ledger is lent and what is put back, since no invariant
+// can name the reference that a collection was begun with.
 pub struct Collecting<'a> {
     pub(crate) ledger: &'a mut Ledger,
     before: Ledger,

@@ -10,7 +10,7 @@ use figures::{Stop, figure, lettered};
 use runs::turns::{Buffers, Call, Turn};
 use std::alloc::{AllocError, Global};
 
-// The letter of a call.
+// The letter of a call. (The bind has fields, so the calls have no numbers of their own.)
 pub fn letter(call: &Call) -> u8
     ensures { result ≡ letter_of_call call.now }
 {

@@ -41,7 +41,7 @@ pub struct Executed {
 }
 
 // A statement. It has no model of its own: a host's meaning holds its program, a function, and a
-// model's value has to be data; so contracts see it by `state_of`.
+// model's value has to be data (tried: no code is found for it). So contracts see it by `state_of`.
 #[derive(Drop)]
 pub struct Statement<X> {
     host: X,

@@ -117,9 +117,9 @@ impl<'a> SheetReader<'a> {
         Ok(table)
     }
 
-    // The values of a row. (A loop like that over names. One function for both would take a trait of
-    // the kinds of lines, with how each is written and when it is good as its members: more than two
-    // loops of a line.)
+    // The values of a row. (A loop like that over names. One function for both would say by what it
+    // is given to read with how far it came and where it stopped, and each caller would turn that
+    // into `Block` and `Breaks`: more than two loops of a line.)
     pub(crate) fn row(&mut self, columns: u64) -> Result<(), BadSheet>
         ensures { MatchResult result
             (λ _. Block rendered_value GoodValue self.old.rest.now columns self.new.rest.now ×

@@ -4,13 +4,14 @@ use Rattle.std.specs.List.{flat_map, AllByRecursion}
 use Rattle.std.specs.declared.alloc.Global.{Global}
 use Rattle.std.proofs.lemmas.List.{map-append}
 use Rattle.std.proofs.lemmas.Grind.{common_steps}
+use Rattle.figures.proofs.Lists.{all_append}
 use Rattle.figures.specs.Reading.{Reads, Lacks}
 use Rattle.runs.specs.declared.turns.Turn.{Turn}
 use Rattle.calls.specs.Items.{rendered_item}
 use Rattle.calls.specs.Binds.{Bundle, BindTurn, ValuesRead, NoLines, fresh_bytes}
 use Rattle.calls.specs.Calls.{Given, bind, execute, end, rendered_bind, call_lines, call_letter, letter_of_call, GoodHead, GoodCall, TurnFor, TurnRead, TurnsFor}
 use Rattle.calls.proofs.Lines.{one_way}
-use Rattle.calls.proofs.Taking.{all_append, one_more}
+use Rattle.calls.proofs.Taking.{one_more}
 
 -- The first line of a bind is read in one way.
 bind_free : (h k : ℕ × ℕ) (r t : List ℕ) → GoodHead h → GoodHead k →

@@ -4,6 +4,7 @@ use Rattle.std.specs.List.{flat_map, AllByRecursion}
 use Rattle.std.proofs.lemmas.Grind.{common_steps}
 use Rattle.std.proofs.lemmas.List.{length_push, flat_map_more}
 use Rattle.binds.specs.declared.collector.SqliteBindValue.{SqliteBindValue}
+use Rattle.figures.proofs.Lists.{all_append}
 use Rattle.figures.specs.Reading.{Reads, Lacks}
 use Rattle.calls.specs.Faults.{Because}
 use Rattle.calls.specs.declared.fault.CallFault.{CallFault}
@@ -54,12 +55,6 @@ entries_append b (e ∷ es) fs = entries_append (with_entry b e) es fs
 entries_one : (b : Bundle) (e : Entry) → with_entries b (e ∷ []) ≡ with_entry b e
 unfolding with_entries
 entries_one b e = refl
-
--- All of both.
-pub all_append : {V : Type 0} (P : V → Type 0) (xs ys : List V) → AllByRecursion P xs →
-    AllByRecursion P ys → AllByRecursion P (xs ++ ys)
-all_append P [] ys g h = h
-all_append P (x ∷ xs) ys g h = (g.0, all_append P xs ys g.1 h)
 
 -- One more, behind those of before.
 pub one_more : {V : Type 0} (write : V → List ℕ) (xs : List V) (x : V) (s r t : List ℕ) →

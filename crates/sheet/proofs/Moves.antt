@@ -1,22 +1,17 @@
 -- One more line of a kind, or one more outcome, behind those that were read.
 use Rattle.std.proofs.Common.{◌≡◌, ℕ, ◌+◌, Bool, not, ◌||◌, eqb, ◌⊎◌, List, [], ◌∷◌, ◌++◌, length, sym, ap, ◌∙◌, subst, inl, inr, ⊎_elim, append_assoc, append-nil, arith, length-append}
-use Rattle.std.specs.List.{flat_map, AllByRecursion}
+use Rattle.std.specs.List.{flat_map}
 use Rattle.std.proofs.lemmas.Grind.{flat_map-append}
 use Rattle.std.proofs.lemmas.List.Folds.{flat_map-map}
 use Rattle.std.proofs.Math.Bool.{or_assoc, or-false}
 use Rattle.std.proofs.lemmas.List.{length_push, length-map}
 use Rattle.figures.specs.Reading.{Block}
 use Rattle.host.specs.Outcome.{Outcome, row, done, failed}
+use Rattle.figures.proofs.Lists.{all_append}
 use Rattle.sheet.specs.Sheet.{rendered_param, rendered_value, outcome_lines, together, names_column, GoodParam, GoodValue, GoodOutcome, Suits}
 use Rattle.sheet.specs.Lines.{Moved, Stuck, Breaks, rendered_head, GoodHead, Outcomes, OutcomesBreak}
 use Rattle.sheet.specs.declared.lines.Head.{Head}
 use Rattle.sheet.specs.declared.lines.Head.TheVariants.{Row, Done, Failed}
-
--- What is so of all, and of one more, is so of all of them.
-all_push : {V : Type 0} (P : V → Type 0) (xs : List V) (y : V) → AllByRecursion P xs → P y →
-    AllByRecursion P (xs ++ (y ∷ []))
-all_push P [] y g h = (h, tt)
-all_push P (x ∷ xs) y g h = (g.0, all_push P xs y g.1 h)
 
 -- So many lines stand between s and the bytes t, where line m begins.
 pub record Walked {V : Type 0} (write : V → List ℕ) (Good : V → Type 0)
@@ -38,7 +33,7 @@ walked_more {write = write} {Good = Good} {s = s} {u = u} {v = v} w x =
       block = record {
         items = b.items ++ (v ∷ []);
         many = omega (arith, b.many, lp);
-        good = all_push Good b.items v b.good x.good;
+        good = all_append Good b.items (v ∷ []) b.good (x.good, tt);
         begins = cc (b.begins, x.begins);
       };
       line = omega (arith, x.line, w.line);
@@ -96,8 +91,8 @@ going_more {u = u} {columns = columns} {table = table} o g good suits begins lin
     record {
       read = record {
         items = x.items ++ (o ∷ []);
-        good = all_push (GoodOutcome columns) x.items o x.good good;
-        suits = all_push (Suits table) x.items o x.suits suits;
+        good = all_append (GoodOutcome columns) x.items (o ∷ []) x.good (good, tt);
+        suits = all_append (Suits table) x.items (o ∷ []) x.suits (suits, tt);
         begins = cc (x.begins);
       };
       line = omega (arith, ap length is, g.line);

@@ -1,5 +1,6 @@
 // Collecting the values of a bind, and binding them one by one.
 ghost use Rattle.std.specs.Prelude.{◌≡◌, ◌+◌, ◌<◌, ◌≤◌, true, [], ◌++◌, length, take, drop, is_ok, nat_le};
+ghost use Rattle.values.specs.Few.{items};
 ghost use Rattle.host.specs.Slots.{lent, slot_of};
 ghost use Rattle.host.specs.declared.Slot.{Slot};
 ghost use Rattle.binds.specs.Pairs.{slot_for, borrowed_span, owned_span, span_fits, span_length, span_bytes, takes_bytes, number_if, all_fit, total_room_bytes, byte_slots, leases_from, written_room};
@@ -128,8 +129,8 @@ fn room_bytes(value: &SqliteBindValue) -> usize
 
 // Notes a slot that took text or bytes.
 fn note(took: &mut Few<usize, 32>, slot: usize, value: &SqliteBindValue)
-    requires { length took.old < 32 }
-    ensures { took.new ≡ took.old ++ number_if (takes_bytes value.now) slot }
+    requires { length (items took.old) < 32 }
+    ensures { items took.new ≡ items took.old ++ number_if (takes_bytes value.now) slot }
 {
     if value.takes_bytes() {
         took.push(slot);
@@ -145,13 +146,13 @@ pub fn bind_values<X: Host>(
     room: &[u8],
     took: &mut Few<usize, 32>,
 ) -> Result<(), Refusal>
-    requires none { took.old ≡ [] }
+    requires none { items took.old ≡ [] }
     requires borrowed { all_fit (length text.now) borrowed_span pairs.now ≡ true }
     requires owned { total_room_bytes pairs.now ≤ length room.now }
     ensures answer { result ≡ tried_answer (bind_from (X.Host.meaning host.old) 0 0 pairs.now) }
     ensures after { X.Host.meaning host.new ≡
         (bind_from (X.Host.meaning host.old) 0 0 pairs.now).host }
-    ensures took { took.new ≡
+    ensures took { items took.new ≡
         byte_slots 1 (take (bind_from (X.Host.meaning host.old) 0 0 pairs.now).bound pairs.now) }
 {
     let mut at = 0;
@@ -169,11 +170,11 @@ pub fn enter_leases(
     pairs: &Pairs<'_>,
     room: usize,
 ) -> Result<(), Full>
-    requires none { collecting.old.ledger.now.leases ≡ [] }
+    requires none { items collecting.old.ledger.now.leases ≡ [] }
     requires unused { collecting.old.ledger.now.used ≡ 0 }
     ensures answer { is_ok result ≡ nat_le (total_room_bytes pairs.now) room }
     ensures leases { is_ok result ≡ true →
-        collecting.new.ledger.now.leases ≡ leases_from 0 pairs.now }
+        items collecting.new.ledger.now.leases ≡ leases_from 0 pairs.now }
     ensures before { collecting.new.before ≡ collecting.old.before }
     ensures lender { collecting.new.ledger.ghost_name ≡ collecting.old.ledger.ghost_name }
 {

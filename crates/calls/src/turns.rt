@@ -1,5 +1,5 @@
 // Call lines as turns: `b` bind with its value lines, `x` execute, `e` end.
-ghost use Rattle.std.specs.Prelude.{◌≡◌, None, IfOk, MatchOption, MatchResult};
+ghost use Rattle.std.specs.Prelude.{◌≡◌, ◌<◌, ◌↔◌, map, length, vec_len, None, IfOk, IsTrue, MatchOption, MatchResult};
 ghost use Rattle.figures.specs.Reading.{Reads, Lacks};
 ghost use Rattle.calls.specs.Faults.{Because};
 ghost use Rattle.calls.specs.Calls.{rendered_bind, call_lines, letter_of_call, GoodHead, GoodCall, TurnRead, CallsRead};
@@ -73,6 +73,28 @@ fn next_turn(heap: Global, s: &[u8]) -> Result<(Turn, &[u8]), CallFault>
 pub struct Calls<'a> {
     pub turns: Vec<Turn>,
     pub rest: &'a [u8],
+}
+
+impl<'a> Calls<'a> {
+    // The letter of each call, in order.
+    pub fn letters(&self, heap: Global) -> Result<Vec<u8>, AllocError>
+        ensures count { IfOk result (λ letters. vec_len letters ≡ vec_len self.now.turns) }
+        ensures letters { IfOk result
+            (λ letters. letters.items ≡ map (λ t. letter_of_call t.call) self.now.turns.items) }
+    {
+        let mut letters = Vec::with_capacity(heap, self.turns.len())?;
+        for turn in &self.turns {
+            letters.push(letter(&turn.call))?;
+        }
+        Ok(letters)
+    }
+
+    // Whether a malformed call comes next.
+    pub fn malformed(&self) -> bool
+        ensures { IsTrue result ↔ 0 < length self.now.rest.now }
+    {
+        !self.rest.is_empty()
+    }
 }
 
 // Reads calls as far as they are well formed.

@@ -53,6 +53,7 @@ fn run(s: &[u8]) -> (u128, usize)
 }
 
 // The figure in front of `s`, at most `most`, with `stop` behind it.
+#[tactic(auto, using(crate::proofs::Steps::figure_steps))]
 pub fn figure(s: &[u8], stop: Stop, most: u64) -> Option<(u64, &[u8])>
     ensures { MatchOption result (NoFigure (stop_byte stop) most s.now)
         (λ p. Figured (stop_byte stop) most s.now p.0 p.1.now) }
@@ -78,6 +79,7 @@ pub fn figure(s: &[u8], stop: Stop, most: u64) -> Option<(u64, &[u8])>
 
 // A length from `least` to `most`, a space, so many bytes of any kind, and the line's end: the
 // bytes.
+#[tactic(auto, using(std::proofs::lemmas::Grind::common_steps, crate::proofs::Steps::figure_free))]
 pub fn piece(s: &[u8], least: u64, most: u64) -> Option<(&[u8], &[u8])>
     ensures { MatchOption result (NoPiece least most s.now)
         (λ p. Pieced least most s.now p.0.now p.1.now) }
@@ -136,6 +138,7 @@ fn is_numeric(bits: u64) -> bool
 }
 
 // The bit pattern of a number in front of `s`, and the end of the line.
+#[tactic(auto, using(std::proofs::lemmas::Grind::common_steps, crate::proofs::Steps::figure_free))]
 pub fn double(s: &[u8]) -> Option<(u64, &[u8])>
     ensures { MatchOption result (NoDouble s.now)
         (λ p. Figured 10 (2 ^ 64 - 1) s.now p.0 p.1.now × Numeric p.0) }

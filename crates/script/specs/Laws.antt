@@ -1,11 +1,11 @@
 -- The laws of a host, kept by a script, since its sheet is well formed.
-use Rattle.std.proofs.Common.{◌≡◌, ℕ, zero, suc, Bool, List, [], ◌∷◌, length, drop, Option, refl, subst, arith}
+use Rattle.std.proofs.Common.{◌≡◌, ℕ, zero, suc, ◌≤◌, Bool, List, [], ◌∷◌, length, drop, Option, refl, subst, arith}
 use Rattle.std.specs.List.{AllByRecursion}
 use Rattle.values.specs.Value.{Value, null, long, double, text, blob}
 use Rattle.host.specs.Outcome.{Outcome, row}
 use Rattle.host.specs.declared.Slot.{Slot}
 use Rattle.host.specs.Sound.{Rowable, Sound}
-use Rattle.sheet.specs.Sheet.{Sheet, GoodValue, GoodOutcome, WellFormed}
+use Rattle.sheet.specs.Sheet.{Sheet, GoodValue, GoodOutcome}
 use Rattle.script.specs.Program.{gives, script_meaning}
 
 -- What a sheet may hold, a row may have.
@@ -31,15 +31,17 @@ row_good columns i zero (o ∷ os) vs g e = good_row columns o vs g.0 e
 row_good columns i (suc place) [] vs g e = cc
 row_good columns i (suc place) (o ∷ os) vs g e = row_good columns i place os vs g.1 e
 
--- A script keeps the laws whatever its slots hold, and wherever it is played.
-pub script_sound : {x : Sheet} {ss : List Slot} {place : ℕ} {stepped : Bool}
-    {current : Option (List Value)} {limit code : ℕ} → WellFormed x →
+-- A script of few names and parameters and of good outcomes keeps the laws, whatever its slots hold
+-- and wherever it is played.
+pub script_sound : (x : Sheet) {ss : List Slot} {place : ℕ} {stepped : Bool}
+    {current : Option (List Value)} {limit code : ℕ} → length x.names ≤ 16 →
+    length x.params ≤ 32 → AllByRecursion (GoodOutcome (length x.names)) x.outcomes →
     length ss ≡ length x.params → Sound (script_meaning x ss place stepped current limit code)
-script_sound {x = x} good each =
+script_sound x names params outcomes each =
     record {
-      few = good.heading.1;
+      few = params;
       each = each;
-      named = good.heading.0;
-      rows = λ i values vs e. row_good (length x.names) i i x.outcomes vs good.outcomes e;
+      named = names;
+      rows = λ i values vs e. row_good (length x.names) i i x.outcomes vs outcomes e;
       copies = record { numbers = []; distinct = tt; exact = λ k. refl; many = refl };
     }

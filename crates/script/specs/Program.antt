@@ -1,5 +1,7 @@
 -- The program of a script: its outcomes in order, whatever the slots hold.
 use Rattle.std.specs.Prelude.{◌≡◌, ℕ, ◌+◌, Bool, false, List, [], ◌∷◌, ◌++◌, length, drop, replicate, Some, None, Option}
+use Rattle.std.specs.Coded.{Unit-prop, Coded-set, coded_list, coded_ℕ}
+use Rattle.std.specs.Option.{IfSome}
 use Rattle.values.specs.Value.{Value}
 use Rattle.host.specs.Outcome.{Outcome, row, done, failed}
 use Rattle.host.specs.Meaning.{Meaning, Program, Copies}
@@ -7,6 +9,7 @@ use Rattle.host.specs.declared.Slot.{Slot}
 use Rattle.host.specs.declared.Slot.TheVariants as slot
 use Rattle.sheet.specs.Sheet.{Sheet, body_lines, together}
 use Rattle.sheet.specs.Decode.{values_at}
+use Rattle.sheet.specs.Lines.{IsEndOf}
 use Rattle.sheet.specs.declared.play.Move.{Move}
 use Rattle.sheet.specs.declared.play.Move.TheVariants.{Row, Done, Failed}
 
@@ -39,9 +42,28 @@ row_at columns (Some (Row values)) = Some (values_at columns values.now).0
 row_at columns (Some Done) = None
 row_at columns (Some (Failed code)) = None
 
--- The outcomes os and the last line stand at the front of s.
-abbrev pub Stands : List ℕ → List Outcome → Type 0
-Stands s os = s ≡ together (body_lines os) ++ drop (length (together (body_lines os))) s
+-- The bytes `place` are the end of s, and at their front stand the outcomes os and the last line.
+abbrev pub Stands : List ℕ → List ℕ → List Outcome → Type 0
+Stands s place os =
+    IsEndOf s place ×
+    (place ≡ together (body_lines os) ++ drop (length (together (body_lines os))) place)
+
+-- A row's bytes are the end of s.
+abbrev pub RowStands : List ℕ → Move → Type 0
+RowStands s (Row values) = IsEndOf s values.now
+RowStands s Done = Unit {0}
+RowStands s (Failed code) = Unit {0}
+
+-- So are those of the last step's row, if it gave one.
+abbrev pub LastStands : List ℕ → Option Move → Type 0
+LastStands s last = IfSome last (RowStands s)
+
+-- That has one proof at most, so that a host can keep it.
+pub LastStands-prop : (s : List ℕ) (last : Option Move) → IsProp (LastStands s last)
+LastStands-prop s None = Unit-prop
+LastStands-prop s (Some (Row values)) = Coded-set (coded_list coded_ℕ) _ _
+LastStands-prop s (Some Done) = Unit-prop
+LastStands-prop s (Some (Failed code)) = Unit-prop
 
 -- The outcome that a move stands for.
 abbrev pub outcome_of : ℕ → Move → Outcome
@@ -50,9 +72,11 @@ outcome_of columns Done = done
 outcome_of columns (Failed code) = failed code
 
 -- What a step plays at outcome i of the outcomes os, and the bytes where the host is after it.
--- The outcome whose number is next stands in front of them.
-pub record Advanced (columns : ℕ) (os : List Outcome) (i : ℕ) (played : Move) (place : List ℕ)
-    (next : ℕ) : Type 0 where
+-- A row's bytes and these are the end of s; the outcome whose number is next stands in front of
+-- the latter.
+pub record Advanced (s : List ℕ) (columns : ℕ) (os : List Outcome) (i : ℕ) (played : Move)
+    (place : List ℕ) (next : ℕ) : Type 0 where
   pub outcome : outcome_of columns played ≡ (gives i (drop i os)).0
+  pub row : RowStands s played
   pub index : next ≡ (gives i (drop i os)).1
-  pub stands : Stands place (drop next os)
+  pub stands : Stands s place (drop next os)

@@ -1,7 +1,8 @@
 // A host that plays the outcomes of a sheet in order.
 ghost use Rattle.std.specs.Prelude.{◌≡◌, length, drop};
+ghost use Rattle.values.specs.Few.{items};
 ghost use Rattle.sheet.specs.Decode.{sheet_at};
-ghost use Rattle.script.specs.Program.{Stands};
+ghost use Rattle.script.specs.Program.{Stands, LastStands, LastStands-prop};
 
 use host::Slot;
 use sheet::CheckedSheet;
@@ -22,6 +23,10 @@ pub struct ScriptHost<'a> {
     last: Option<Move<'a>>,
     byte_limit: usize,
     code: u32,
-    ghost each: { length slots ≡ length (sheet_at sheet.bytes.now).params },
-    ghost stands: { Stands place.now (drop index (sheet_at sheet.bytes.now).outcomes) },
+    ghost each: { length (items slots) ≡ length (sheet_at sheet.bytes.now).params },
+    ghost begins: { Stands sheet.bytes.now sheet.outcomes.now
+        (sheet_at sheet.bytes.now).outcomes },
+    ghost stands: { Stands sheet.bytes.now place.now
+        (drop index (sheet_at sheet.bytes.now).outcomes) },
+    ghost row: { LastStands sheet.bytes.now last } by { LastStands-prop sheet.bytes.now last },
 }

@@ -1,4 +1,5 @@
 pub mod Parts
+pub mod Ends
 pub mod Moves
 pub mod Runs
 pub mod Whole

@@ -1,13 +1,14 @@
 -- What stands where is what is read there.
-use Rattle.std.proofs.Common.{◌≡◌, ℕ, zero, suc, ◌+◌, ◌<◌, ◌≤◌, List, [], ◌∷◌, ◌++◌, length, get_or, drop, Some, None, Option, sym, refl, ap, ◌∙◌, subst, append_assoc, arith, Bor, MatchOption}
+use Rattle.std.proofs.Common.{◌≡◌, ℕ, zero, suc, ◌+◌, ◌<◌, ◌≤◌, List, [], ◌∷◌, ◌++◌, length, get_or, drop, Some, None, Option, sym, refl, ap, ◌∙◌, subst, append_assoc, append-nil, arith, Bor, MatchOption}
 use Rattle.std.specs.List.{flat_map, AllByRecursion}
 use Rattle.std.proofs.lemmas.List.{drop_all}
+use Rattle.std.proofs.lemmas.List.Folds.{flat_map-map}
 use Rattle.figures.specs.Reading.{Reads, Lacks}
 use Rattle.values.specs.Value.{Value, null}
 use Rattle.host.specs.Outcome.{Outcome, row, done, failed}
 use Rattle.sheet.proofs.Decoded.{row_bytes}
 use Rattle.sheet.proofs.Runs.{Free, value_free, name_free, head_free}
-use Rattle.sheet.specs.Sheet.{rendered_name, rendered_value, body_lines, together, GoodName, GoodValue, GoodOutcome}
+use Rattle.sheet.specs.Sheet.{rendered_name, rendered_value, failed_line, row_line, body_lines, together, GoodName, GoodValue, GoodOutcome}
 use Rattle.sheet.specs.Lines.{cell_of, rendered_head, PlainHead}
 use Rattle.sheet.specs.Places.{At, Plays, Behind}
 use Rattle.sheet.specs.declared.lines.Cell.{Cell}
@@ -151,10 +152,27 @@ head_is_first {c = c} os x h t r =
     head_free h (first_head os) t (behind_head os ++ x.rest) r.good (first_good c os x.good) (sym r.begins ∙ at_head os x)
 
 -- Playing what stands there answers it.
+pub plays_done : {s : List ℕ} {c : ℕ} (os : List Outcome) → At s c os →
+    (h : Head) (t : Bor (List ℕ)) → Reads rendered_head PlainHead s h t.now → h ≡ heads.Done →
+    Plays s c os (Some (record { outcome = moves.Done; next = t }))
+plays_done [] x h t r e =
+    let w : heads.Done ≡ heads.End = sym e ∙ (head_is_first [] x h t.now r).0 in cc
+plays_done (row vs ∷ os) x h t r e =
+    let w : heads.Done ≡ heads.Row = sym e ∙ (head_is_first (row vs ∷ os) x h t.now r).0 in cc
+plays_done (failed k ∷ os) x h t r e =
+    let w : heads.Done ≡ heads.Failed k = sym e ∙ (head_is_first (failed k ∷ os) x h t.now r).0 in cc
+plays_done (done ∷ os) x h t r e =
+    let w = head_is_first (done ∷ os) x h t.now r in
+    record {
+      played = tt;
+      begins = r.begins ∙ ap (λ z. rendered_head z ++ t.now) e;
+      others = record { good = x.good.1; rest = x.rest; begins = w.1 };
+    }
+
 pub plays_failed : {s : List ℕ} {c : ℕ} (os : List Outcome) → At s c os →
     (h : Head) (t : Bor (List ℕ)) → Reads rendered_head PlainHead s h t.now →
     (code : ℕ) → h ≡ heads.Failed code →
-    Plays c os (Some (record { outcome = moves.Failed code; next = t }))
+    Plays s c os (Some (record { outcome = moves.Failed code; next = t }))
 plays_failed [] x h t r code e =
     let w : heads.Failed code ≡ heads.End = sym e ∙ (head_is_first [] x h t.now r).0 in cc
 plays_failed (row vs ∷ os) x h t r code e =
@@ -164,20 +182,25 @@ plays_failed (done ∷ os) x h t r code e =
 plays_failed (failed k ∷ os) x h t r code e =
     let w = head_is_first (failed k ∷ os) x h t.now r in
     let z : heads.Failed code ≡ heads.Failed k = sym e ∙ w.0 in
-    (cc, record { good = x.good.1; rest = x.rest; begins = w.1 })
+    let line = sym (append-nil (failed_line k)) in
+    record {
+      played = cc;
+      begins = r.begins ∙ (ap (λ z. rendered_head z ++ t.now) w.0 ∙ ap (λ l. l ++ t.now) line);
+      others = record { good = x.good.1; rest = x.rest; begins = w.1 };
+    }
 
 pub plays_row : {s : List ℕ} {c : ℕ} (os : List Outcome) → At s c os →
     (h : Head) (t : Bor (List ℕ)) → Reads rendered_head PlainHead s h t.now → h ≡ heads.Row →
     (Read : Reader Cell) → Law rendered_value GoodValue cell_of Read →
     (r : Option (Bor (List ℕ))) → Behind Read t.now c r →
-    MatchOption r ⊥ (λ u. Plays c os (Some (record { outcome = moves.Row t; next = u })))
+    MatchOption r ⊥ (λ u. Plays s c os (Some (record { outcome = moves.Row t; next = u })))
 plays_row [] x h t r e Read law a b =
     let w : heads.Row ≡ heads.End = sym e ∙ (head_is_first [] x h t.now r).0 in cc
 plays_row (done ∷ os) x h t r e Read law a b =
     let w : heads.Row ≡ heads.Done = sym e ∙ (head_is_first (done ∷ os) x h t.now r).0 in cc
 plays_row (failed k ∷ os) x h t r e Read law a b =
     let w : heads.Row ≡ heads.Failed k = sym e ∙ (head_is_first (failed k ∷ os) x h t.now r).0 in cc
-plays_row {c = c} (row vs ∷ os) x h t r e Read law a b =
+plays_row {s = s} {c = c} (row vs ∷ os) x h t r e Read law a b =
     let w = (head_is_first (row vs ∷ os) x h t.now r).1 in
     let many = x.good.0.0 in
     let behind = together (body_lines os) ++ x.rest in
@@ -189,9 +212,16 @@ plays_row {c = c} (row vs ∷ os) x h t r e Read law a b =
     played : (behind : List ℕ) → t.now ≡ flat_map rendered_value vs ++ behind →
         behind ≡ together (body_lines os) ++ x.rest → (a : Option (Bor (List ℕ))) →
         MatchOption a ⊥ (λ u. u.now ≡ flat_map rendered_value (drop c vs) ++ behind) →
-        MatchOption a ⊥ (λ u. Plays c (row vs ∷ os) (Some (record { outcome = moves.Row t; next = u })))
+        MatchOption a ⊥ (λ u. Plays s c (row vs ∷ os) (Some (record { outcome = moves.Row t; next = u })))
     played behind w f None y = y
     played behind w f (Some u) y =
         let all = drop_all c vs (omega (arith, x.good.0.0)) in
         let next : u.now ≡ behind = y ∙ ap (λ l. flat_map rendered_value l ++ behind) all in
-        (cc, record { good = x.good.1; rest = x.rest; begins = next ∙ f })
+        let first : s ≡ row_line ++ t.now = r.begins ∙ ap (λ z. rendered_head z ++ t.now) e in
+        let values = w ∙ ap (λ l. flat_map rendered_value vs ++ l) (sym next) in
+        let lines = sym (flat_map-map (λ l. l) rendered_value vs) in
+        record {
+          played = (first, values);
+          begins = first ∙ ap (λ l. row_line ++ l) (values ∙ ap (λ l. l ++ u.now) lines);
+          others = record { good = x.good.1; rest = x.rest; begins = next ∙ f };
+        }

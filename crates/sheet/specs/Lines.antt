@@ -1,5 +1,5 @@
 -- What a reader of one line, or of several of a kind, answers.
-use Rattle.std.specs.Prelude.{◌≡◌, ℕ, ◌+◌, ◌<◌, Bool, false, ◌⊎◌, List, ◌∷◌, ◌++◌, length, decimal, ◌≢◌}
+use Rattle.std.specs.Prelude.{◌≡◌, ℕ, ◌+◌, ◌-◌, ◌<◌, Bool, false, ◌⊎◌, List, ◌∷◌, ◌++◌, length, drop, decimal, ◌≢◌}
 use Rattle.std.specs.List.{flat_map, AllByRecursion}
 use Rattle.values.specs.Value.{Value, null, long, double, text, blob}
 use Rattle.figures.specs.Reading.{Lacks, Block}
@@ -9,6 +9,10 @@ use Rattle.sheet.specs.declared.lines.Cell.{Cell}
 use Rattle.sheet.specs.declared.lines.Cell.TheVariants.{Null, Long, Double, Text, Blob}
 use Rattle.sheet.specs.declared.lines.Head.{Head}
 use Rattle.sheet.specs.declared.lines.Head.TheVariants.{Row, Done, Failed, End}
+
+-- rest is the last bytes of s: all of them, some, or none.
+abbrev pub IsEndOf : List ℕ → List ℕ → Type 0
+IsEndOf s rest = rest ≡ drop (length s - length rest) s
 
 -- A reader at the bytes s, where line l begins, read v; what is left is `rest`, where line m begins.
 pub record Moved {V : Type 0} (write : V → List ℕ) (Good : V → Type 0)

@@ -3,7 +3,7 @@ use Rattle.std.specs.Prelude.{◌≡◌, ℕ, zero, suc, ◌<◌, ◌≤◌, Boo
 use Rattle.std.specs.Borrow.{Bor}
 use Rattle.std.specs.List.{flat_map, AllByRecursion}
 use Rattle.host.specs.Outcome.{Outcome, row, done, failed}
-use Rattle.sheet.specs.Sheet.{Sheet, heading_of, rendered_heading, rendered_name, rendered_param, rendered_value, body_lines, render, together, GoodOutcome, names_column, Holds}
+use Rattle.sheet.specs.Sheet.{Sheet, heading_of, rendered_heading, rendered_name, rendered_param, rendered_value, row_line, outcome_lines, body_lines, render, together, GoodOutcome, names_column, Holds}
 use Rattle.sheet.specs.declared.lines.Heading.{Heading}
 use Rattle.sheet.specs.declared.play.Played.{Played}
 use Rattle.sheet.specs.declared.play.Move.{Move}
@@ -38,24 +38,33 @@ ByName r names i =
     MatchOption r (length names ≤ i)
     (λ name. (i < length names) × (name.now ≡ slice_index_or names i []))
 
--- An outcome as it is played: a row by the bytes that begin with its values;
--- next is what stands behind them.
-abbrev pub PlayedAs : Outcome → Move → List ℕ → Type 0
-PlayedAs (row vs) (Row values) next = values.now ≡ flat_map rendered_value vs ++ next
-PlayedAs (row vs) Done next = ⊥
-PlayedAs (row vs) (Failed c) next = ⊥
-PlayedAs done (Row values) next = ⊥
-PlayedAs done Done next = Unit {0}
-PlayedAs done (Failed c) next = ⊥
-PlayedAs (failed code) (Row values) next = ⊥
-PlayedAs (failed code) Done next = ⊥
-PlayedAs (failed code) (Failed c) next = c ≡ code
+-- An outcome as it is played: a row by the bytes that begin with its values. They are what stands
+-- behind its first line in s, and next is what stands behind them.
+abbrev pub PlayedAs : List ℕ → Outcome → Move → List ℕ → Type 0
+PlayedAs s (row vs) (Row values) next =
+    (s ≡ row_line ++ values.now) × (values.now ≡ flat_map rendered_value vs ++ next)
+PlayedAs s (row vs) Done next = ⊥
+PlayedAs s (row vs) (Failed c) next = ⊥
+PlayedAs s done (Row values) next = ⊥
+PlayedAs s done Done next = Unit {0}
+PlayedAs s done (Failed c) next = ⊥
+PlayedAs s (failed code) (Row values) next = ⊥
+PlayedAs s (failed code) Done next = ⊥
+PlayedAs s (failed code) (Failed c) next = c ≡ code
 
--- What playing the next outcome answers, where the outcomes os stand:
+-- s is the lines of the outcome o, which is played as `move`, and behind them the bytes `next`,
+-- where the outcomes os stand.
+pub record Next (s : List ℕ) (columns : ℕ) (o : Outcome) (os : List Outcome) (move : Move)
+    (next : List ℕ) : Type 0 where
+  pub played : PlayedAs s o move next
+  pub begins : s ≡ together (outcome_lines o) ++ next
+  pub others : At next columns os
+
+-- What playing the next outcome answers, where the outcomes os stand at the front of s:
 -- it and what stands behind it; past the last one nothing.
-abbrev pub Plays : ℕ → List Outcome → Option Played → Type 0
-Plays columns [] r = MatchOption r (Unit {0}) (λ p. ⊥)
-Plays columns (o ∷ os) r = MatchOption r ⊥ (λ p. PlayedAs o p.outcome p.next.now × At p.next.now columns os)
+abbrev pub Plays : List ℕ → ℕ → List Outcome → Option Played → Type 0
+Plays s columns [] r = MatchOption r (Unit {0}) (λ p. ⊥)
+Plays s columns (o ∷ os) r = MatchOption r ⊥ (λ p. Next s columns o os p.outcome p.next.now)
 
 -- What stands behind so many lines of a kind in front of s.
 -- Read says what reading one of them gives.

@@ -101,7 +101,9 @@ pub(crate) fn param_line(s: &[u8], columns: u64) -> Option<(u64, &[u8])>
     figure(lettered(s, b'P', Stop::Space)?, Stop::Line, columns)
 }
 
-// The line of a value.
+// The line of a value. (Always inline: at a call the value and what is behind it would pass through
+// memory, which takes a third of the time of reading a sheet of short values.)
+#[inline(always)]
 pub(crate) fn value_line(s: &[u8]) -> Option<(Cell<'_>, &[u8])>
     ensures { MatchOption result (Lacks rendered_value GoodValue s.now)
         (λ p. Reads rendered_value GoodValue s.now (cell_of p.0) p.1.now) }

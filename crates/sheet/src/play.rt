@@ -42,7 +42,7 @@ fn behind<'a, T: Drop, F: Fn(&'a [u8]) -> Option<(T, &'a [u8])>>(
 
 // The outcome in front of the bytes, in so many columns; none past the last one.
 pub fn next_outcome(bytes: &[u8], columns: u64) -> Option<Played<'_>>
-    ensures { (os : List Outcome) → At bytes.now columns os → Plays columns os result }
+    ensures { (os : List Outcome) → At bytes.now columns os → Plays bytes.now columns os result }
 {
     let (head, rest) = head_line(bytes)?;
     let (outcome, next) = match head {

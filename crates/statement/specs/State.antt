@@ -1,5 +1,6 @@
 -- What a statement stands for.
 use Rattle.std.specs.Prelude.{ℕ, List, [], None, Option}
+use Rattle.values.specs.Few.{items}
 use Rattle.host.specs.Meaning.{Meaning}
 use Rattle.binds.specs.declared.collector.Span.{Span}
 use Rattle.binds.specs.Cleared.{cleared, count_up}
@@ -24,7 +25,7 @@ pub record State : Type 0 where
 
 -- The state of a statement.
 abbrev pub state_of : {X : Type 0} → (X → Meaning) → Statement X → State
-state_of meaning s = record { host = meaning s.host; binding = s.binding; held = s.held.count; leases = s.ledger.leases; nulls = s.nulls; steps = s.steps; report = s.report }
+state_of meaning s = record { host = meaning s.host; binding = s.binding; held = s.held.count; leases = items s.ledger.leases; nulls = items s.nulls; steps = s.steps; report = s.report }
 
 -- The same statement over another host.
 abbrev pub with_host : State → Meaning → State

@@ -1,5 +1,5 @@
 // A sheet with calls behind it, played from first to last.
-use calls::turns::{Calls, letter, read_calls};
+use calls::turns::{Calls, read_calls};
 use runs::acts::{figures, number, perform_all};
 use runs::turns::Reply;
 use script::player::ScriptHost;
@@ -36,15 +36,16 @@ fn show_calls(
     sheet: CheckedSheet<'_>,
     calls: Calls<'_>,
 ) -> Result<String, AllocError> {
-    let Calls { turns, rest } = calls;
-    let letters: Vec<u8> = turns.iter().map(|turn| letter(&turn.call)).collect(heap)?;
+    let letters = calls.letters(heap)?;
+    let malformed = calls.malformed();
+    let Calls { turns, rest: _ } = calls;
     let performed = perform_all(heap, ScriptHost::new(sheet, BYTE_LIMIT), turns)?;
     let mut shown = String::new(heap);
     for (&letter, reply) in letters.iter().zip(performed.answers.iter()) {
         let line = Line { letter, reply };
         writeln!(shown, "{line}")?;
     }
-    if !rest.is_empty() {
+    if malformed {
         shown.push_str("?\n")?;
     }
     Ok(shown)

@@ -1,3 +1,4 @@
 pub mod Value
 pub mod Types
 pub mod Order
+pub mod Few

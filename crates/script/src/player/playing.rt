@@ -1,5 +1,6 @@
 // The script host's functions.
 ghost use Rattle.std.specs.Prelude.{◌≡◌, ◌≤◌, ◌↔◌, length, IsTrue};
+ghost use Rattle.values.specs.Few.{items};
 ghost use Rattle.host.specs.Meaning.{bind_answer};
 ghost use Rattle.sheet.specs.Decode.{sheet_at};
 ghost use Rattle.script.specs.Program.{script_start, Advanced};
@@ -32,8 +33,9 @@ impl<'a> ScriptHost<'a> {
     // The next outcome, the bytes behind it, and the number of the one after it.
     // Past the last outcome it is done, and starts over.
     fn advance(&self) -> (Move<'a>, &'a [u8], usize)
-        ensures { Advanced self.now.sheet.heading.columns (sheet_at self.now.sheet.bytes.now).outcomes
-            self.now.index result.0 result.1.now result.2 }
+        ensures { Advanced self.now.sheet.bytes.now self.now.sheet.heading.columns
+            (sheet_at self.now.sheet.bytes.now).outcomes self.now.index
+            result.0 result.1.now result.2 }
     {
         match next_outcome(self.place, self.sheet.heading.columns) {
             Some(played) => (played.outcome, played.next, self.index + 1),
@@ -43,7 +45,7 @@ impl<'a> ScriptHost<'a> {
 
     // Whether there is such a slot, counted from 1.
     fn has_slot(&self, index: usize) -> bool
-        ensures { IsTrue result ↔ (1 ≤ index) × (index ≤ length self.now.slots) }
+        ensures { IsTrue result ↔ (1 ≤ index) × (index ≤ length (items self.now.slots)) }
     {
         (1..=self.slots.len()).contains(&index)
     }
@@ -123,5 +125,6 @@ impl<'a> Host for ScriptHost<'a> {
         self.code
     }
 
-    ghost laws = { λ h. script_sound h.sheet.good h.each };
+    ghost laws = { λ h. script_sound _ h.sheet.good.heading.0 h.sheet.good.heading.1
+        h.sheet.good.outcomes h.each };
 }

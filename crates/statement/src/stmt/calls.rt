@@ -79,7 +79,8 @@ impl<X: Host> Statement<X> {
     pub fn report(&self) -> Option<Report>
         ensures { result ≡ (state_of X.Host.meaning self.now).report }
     {
-        self.report
+        let Statement { report, .. } = self;
+        *report
     }
 
     // What is tested before any value is bound. It answers the values, which are few enough.
@@ -132,7 +133,8 @@ impl<X: Host> Statement<X> {
         if let Err(refusal) = bind_values(&mut self.host, pairs, text, room, &mut took) {
             self.host.reset();
             null_slots(&mut self.host, took.as_slice());
-            zero_leases(collecting.leases(), room);
+            let leases = collecting.leases();
+            zero_leases(leases.as_slice(), room);
             return Err(refusal);
         }
         self.nulls = took;

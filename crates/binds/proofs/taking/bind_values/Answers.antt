@@ -1,5 +1,6 @@
 use Rattle.std.proofs.Common.{◌≡◌, arith, rules}
 use Rattle.std.proofs.lemmas.Result.{err_from_is_err_and}
+use Rattle.values.specs.Few.{items}
 use Rattle.binds.specs.Tried.{refusal_at}
 use Rattle.std.proofs.lemmas.Grind.{common_steps}
 use Rattle.binds.proofs.Collect.{slots_none, slots_next, slots_room, bind_next, bind_done, why_is_none, err_of_map, bind_stops, stopped}
@@ -22,7 +23,7 @@ returns-in_err-map_err g c =
     let s = bind_stops (m c.loop-i.host) (m c.bind_one.new.host) c.loop-i.i-counter c.loop-i.at ps q.0 c.bind_one.result c.loop-i-test.true q.1 c.bind_one.ensures.answer c.bind_one.ensures.after in
     let z : c.in_err-map_err.field-0.0 ≡ refusal_at c.loop-i.i-counter q.0 = search rules in
     let p = err_from_is_err_and c.from_residual.result c.from_residual.ensures.1 in
-    let x = stopped (m c.args.host.now) (m c.bind_one.new.host) c.loop-i.i-counter c.args.pairs.now ps q.0 c.in_err-map_err.field-0.0 p.0 c.from_residual.result c.loop-i.took _ c.as_slice-pair-items.ensures.value c.loop-i.invariant.0 s z p.1 p.2 c.loop-i.invariant.1 in
+    let x = stopped (m c.args.host.now) (m c.bind_one.new.host) c.loop-i.i-counter c.args.pairs.now ps q.0 c.in_err-map_err.field-0.0 p.0 c.from_residual.result (items c.loop-i.took) _ c.as_slice-pair-items.ensures.value c.loop-i.invariant.0 s z p.1 p.2 c.loop-i.invariant.1 in
     record { answer = x.0; after = x.1; took = x.2 }
 
 pub returns-clause-answer : goal.returns-clause-answer

@@ -17,6 +17,8 @@ pub struct Few<T, const N: usize> {
 impl<T: Copy, const N: usize> Clone for Few<T, N> {
     ghost is_clone = { λ f g. g ≡ f };
 
+    ghost is_infallible = { λ _. Unit {0} };
+
     fn clone(&self) -> Result<Few<T, N>, AllocError> {
         Ok(*self)
     }

@@ -102,7 +102,7 @@ pub(crate) fn param_line(s: &[u8], columns: u64) -> Option<(u64, &[u8])>
 }
 
 // The line of a value. (Always inline: at a call the value and what is behind it would pass through
-// memory, which takes a third of the time of reading a sheet of short values.)
+// memory, and a sheet of short values would be read in a third more time.)
 #[inline(always)]
 pub(crate) fn value_line(s: &[u8]) -> Option<(Cell<'_>, &[u8])>
     ensures { MatchOption result (Lacks rendered_value GoodValue s.now)

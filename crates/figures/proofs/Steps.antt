@@ -9,7 +9,7 @@ use Rattle.std.proofs.lemmas.List.{get_or_at, get_or-take, length-take-le, take-
 use Rattle.std.proofs.lemmas.Grind.{common_steps}
 use Rattle.std.proofs.lemmas.List.Prefix.{front_reads}
 use Rattle.std.proofs.lemmas.Bool.{cases_lt}
-use Rattle.figures.specs.Figures.{stop_byte, read_on, Run, Figured, NoFigure, NoNumber}
+use Rattle.figures.specs.Figures.{stop_byte, read_on, Run, Figured, NoFigure, NoPiece, NoNumber}
 use Rattle.figures.specs.declared.Stop.{Stop}
 use Rattle.figures.specs.declared.Stop.TheVariants.{Space, Line}
 
@@ -137,6 +137,18 @@ figured s n i stop most r small some inside plain le is =
 -- the bytes as a figure read there writes them
 pub figure_begins : (s : List ℕ) (n i stop : ℕ) → Run s n i → n < 2 ^ 64 → 0 < i → i < length s → (get_or s 0 0 ≡ 48 → i ≤ 1) → get_or s i 0 ≡ stop → s ≡ decimal n ++ (stop ∷ drop 1 (drop i s))
 figure_begins s n i stop r small some inside plain is = let f = figured s n i stop n r small some inside plain (omega arith) is in f.begins
+
+-- behind the figure of a piece stand its bytes and the end of the line
+pub piece_seen : (s bs rest behind : List ℕ) (most n : ℕ) → most < 2 ^ 64 → Figured 32 most s n behind → length bs ≤ most → s ≡ decimal (length bs) ++ (32 ∷ (bs ++ (10 ∷ rest))) → (n ≡ length bs) × (behind ≡ bs ++ (10 ∷ rest))
+piece_seen s bs rest behind most n small f h e =
+    let same = figure_free n (length bs) 32 32 behind (bs ++ (10 ∷ rest)) (omega (arith, f.small)) (omega arith) (omega arith) (omega arith) (sym f.begins ∙ e) in
+    (same.figures, same.rests)
+
+-- no piece stands in front where what one would say of the bytes behind its length is not so
+pub no_piece : (s after : List ℕ) (least most n : ℕ) → most < 2 ^ 64 → Figured 32 most s n after → ((bs rest : List ℕ) → n ≡ length bs → after ≡ bs ++ (10 ∷ rest) → least ≤ length bs → ⊥) → NoPiece least most s
+no_piece s after least most n small f not bs rest low high e =
+    let p = piece_seen s bs rest after most n small f high e in
+    not bs rest p.0 p.1 low
 
 digit_first : (n : ℕ) (rest : List ℕ) → n < 2 ^ 64 → 48 ≤ get_or (decimal n ++ rest) 0 0
 digit_first n rest h =
